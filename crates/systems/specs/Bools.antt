@@ -51,12 +51,14 @@ pub T-false : (b : Bool) → T (not b) → b ≡ false
 T-false false t = refl
 
 below-suc : {P : ℕ → Type 0} (n : ℕ) → P n → ((i : ℕ) → i < n → P i) → (i : ℕ) → i < suc n → P i
-below-suc {P} n here rest i h = ⊎-elim (λ e. subst P (sym e) here) (λ l. rest i l) (eq-or-lt-of-le (le-of-suc-le-suc h))
+below-suc {P} n here rest i h = ⊎-elim (λ e. subst P (sym e) here) (λ l. rest i l)
+    (eq-or-lt-of-le (le-of-suc-le-suc h))
 
 pub all-elim : (n : ℕ) (p : ℕ → Bool) → T (all n p) → (i : ℕ) → i < n → T (p i)
 unfolding all
 all-elim zero p t i h = absurd (not-suc-le-zero h)
-all-elim (suc n) p t i h = below-suc {P = λ (k : ℕ). T (p k)} n (and-left (p n) (all n p) t) (all-elim n p (and-right (p n) (all n p) t)) i h
+all-elim (suc n) p t i h = below-suc {P = λ (k : ℕ). T (p k)} n (and-left (p n) (all n p) t)
+    (all-elim n p (and-right (p n) (all n p) t)) i h
 
 pub all-intro : (n : ℕ) (p : ℕ → Bool) → ((i : ℕ) → i < n → T (p i)) → T (all n p)
 unfolding all
@@ -65,21 +67,26 @@ all-intro (suc n) p f = and-T (p n) (all n p) (f n (omega arith)) (all-intro n p
 
 pub any-elim : (n : ℕ) (p : ℕ → Bool) → T (any n p) → (i : ℕ) × (i < n) × T (p i)
 unfolding any
-any-elim (suc n) p t = ⊎-elim {C = (i : ℕ) × (i < suc n) × T (p i)} (λ h. (n, omega arith, h)) (λ h. let r = any-elim n p h in (r .0, omega arith, r .2)) (or-cases (p n) (any n p) t)
+any-elim (suc n) p t = ⊎-elim {C = (i : ℕ) × (i < suc n) × T (p i)} (λ h. (n, omega arith, h))
+    (λ h. let r = any-elim n p h in (r .0, omega arith, r .2)) (or-cases (p n) (any n p) t)
 
 pub any-intro : (n : ℕ) (p : ℕ → Bool) (i : ℕ) → i < n → T (p i) → T (any n p)
 unfolding any
 any-intro zero p i h t = absurd (not-suc-le-zero h)
-any-intro (suc n) p i h t = ⊎-elim (λ e. or-left (p n) (any n p) (subst (λ (k : ℕ). T (p k)) e t)) (λ l. or-right (p n) (any n p) (any-intro n p i l t)) (eq-or-lt-of-le (le-of-suc-le-suc h))
+any-intro (suc n) p i h t = ⊎-elim (λ e. or-left (p n) (any n p) (subst (λ (k : ℕ). T (p k)) e t))
+    (λ l. or-right (p n) (any n p) (any-intro n p i l t)) (eq-or-lt-of-le (le-of-suc-le-suc h))
 
 pub least-passes : (p : ℕ → Bool) (i n j : ℕ) → i ≤ j → j < i + n → T (p j) → T (p (least p i n)) × (least p i n ≤ j)
 unfolding least
 least-passes p i zero j h l t = absurd (omega arith)
 least-passes p i (suc n) j h l t = go (p i) refl (λ r. least-passes p (suc i) n j r (omega arith) t)
   where
-    go : (b : Bool) → p i ≡ b → (i < j → T (p (least p (suc i) n)) × (least p (suc i) n ≤ j)) → T (p (elim b [ true ↦ i | false ↦ least p (suc i) n ])) × ((elim b [ true ↦ i | false ↦ least p (suc i) n ]) ≤ j)
+    go : (b : Bool) → p i ≡ b → (i < j → T (p (least p (suc i) n)) × (least p (suc i) n ≤ j))
+        → T (p (elim b [ true ↦ i | false ↦ least p (suc i) n ]))
+        × ((elim b [ true ↦ i | false ↦ least p (suc i) n ]) ≤ j)
     go true e ih = (subst T (sym e) tt, h)
-    go false e ih = ⊎-elim {C = T (p (least p (suc i) n)) × (least p (suc i) n ≤ j)} (λ q. absurd (subst T (e) (subst (λ k. T (p k)) (sym q) t))) ih (eq-or-lt-of-le h)
+    go false e ih = ⊎-elim {C = T (p (least p (suc i) n)) × (least p (suc i) n ≤ j)}
+        (λ q. absurd (subst T (e) (subst (λ k. T (p k)) (sym q) t))) ih (eq-or-lt-of-le h)
 
 pub imp-elim : (a b : Bool) → T (a ⇒ b) → T a → T b
 unfolding _⇒_

@@ -1,6 +1,5 @@
 -- Small systems on which the theorems' hypotheses are met, computed: one clock with uncapped values, capped at 2.
 use mathlib.Core.Path.{_≡_, refl, sym, subst, ap, _∙_}
-use mathlib.Core.Logic.{_↔_}
 use mathlib.Core.Bool.{Bool, true, false, not, _&&_, _||_, cond}
 use mathlib.Core.Option.{Option, none, some}
 use mathlib.Core.List.{List, [], _∷_, _++_}
@@ -8,11 +7,11 @@ use Prim.Native.Nat.{ℕ, zero, suc, _≤_, _<_}
 use native.Mathlib.Omega.{arith}
 use lib.Dec.{T, eqb, eqb→eq}
 use lib.ListN.{length}
-use Rattle.systems.specs.Bools.{none-some, below-iff}
-use Rattle.systems.specs.Tests.{all, any, least, _⇒_, stays, lands, ones, sieve, table, round, stage}
-use Rattle.systems.specs.Definitions.{Signature, Input, System, Implementation, Satisfies, Makes, Allows, Departure, Shortest-departure, Refines}
-use Rattle.systems.specs.Finite.{Finite-system, State, cap-option, Capping, input-stays, own-lands, safe-test, safe-states, safe, Safe-at, if-in, pruned, input-ok, own-ok, step-ok, pair-ok, entry-ok, check, pairs, widest, Denoted, Widest, left-after, bad, first, walk, gone, departure-length, search-run}
+use Rattle.systems.specs.Bools.{none-some}
+use Rattle.systems.specs.Definitions.{Signature, System, Implementation, Satisfies, Makes, Allows, Departure, Shortest-departure, Refines}
+use Rattle.systems.specs.Finite.{Finite-system, State, cap-option, Capping, safe-states, safe, Safe-at, check, widest, Denoted, Widest, search-run}
 use Rattle.systems.specs.Capped.{cap-some}
+use Rattle.systems.specs.Compute.{opened}
 use Rattle.systems.specs.Theorems.{implementation-iff, departure-made-by, departure-as-prefix, search-implementations, search-shortest, check-exactly}
 
 -- one input, press (1), and one output, ring (2)
@@ -153,27 +152,46 @@ module _ (d r : Bool) where
     agree = λ x c l. cap-next d r x c;
   }
 
--- Prompt rings within the deadline, Loose rings or waits for ever, Silent has the deadline and cannot ring
+-- Prompt rings within the deadline, Loose rings or waits for ever, Silent has the deadline and cannot ring: with the
+-- uncapped clock, by state numbers, and capped
+abbrev prompt : System bell
+prompt = clock true true
+
 abbrev Prompt : Finite-system bell
 Prompt = states true true
+
+abbrev prompt-capping : Capping prompt Prompt
+prompt-capping = capping true true
+
+abbrev loose : System bell
+loose = clock false true
 
 abbrev Loose : Finite-system bell
 Loose = states false true
 
+abbrev loose-capping : Capping loose Loose
+loose-capping = capping false true
+
+abbrev silent : System bell
+silent = clock true false
+
 abbrev Silent : Finite-system bell
 Silent = states true false
 
+abbrev silent-capping : Capping silent Silent
+silent-capping = capping true false
+
 -- 1. safe states: the state whose invariant is false is not safe; in Silent none is
 prompt-safe : safe-states Prompt ≡ true ∷ true ∷ false ∷ []
-unfolding safe-states stage round sieve table safe-test input-stays own-lands all any _⇒_ stays lands cap-option
+unfolding opened
 prompt-safe = refl
 
 loose-safe : safe-states Loose ≡ true ∷ true ∷ true ∷ []
-unfolding safe-states stage round sieve table safe-test input-stays own-lands all any _⇒_ stays lands cap-option
+unfolding opened
 loose-safe = refl
 
 silent-safe : safe-states Silent ≡ false ∷ false ∷ false ∷ []
-unfolding safe-states stage round sieve table safe-test input-stays own-lands all any _⇒_ stays lands cap-option
+unfolding opened
 silent-safe = refl
 
 prompt-start : T (safe Prompt 0)
@@ -182,58 +200,73 @@ prompt-start = rw prompt-safe tt
 loose-start : T (safe Loose 0)
 loose-start = rw loose-safe tt
 
-prompt-implementation : (I : Implementation bell) × Satisfies I (clock true true)
-prompt-implementation = implementation-iff (capping true true) .1 prompt-start
+prompt-implementation : (I : Implementation bell) × Satisfies I prompt
+prompt-implementation = implementation-iff prompt-capping .1 prompt-start
 
-silent-has-none : ((I : Implementation bell) × Satisfies I (clock true false)) → ⊥
-silent-has-none h = rw silent-safe at (implementation-iff (capping true false) .0 h)
+silent-has-none : ((I : Implementation bell) × Satisfies I silent) → ⊥
+silent-has-none h = rw silent-safe at (implementation-iff silent-capping .0 h)
+
+-- Loose itself may tick and ring in one state, so no implementation has its moves
+loose-is-none : (I : Implementation bell) → I .start ≡ 0 → ((s c : ℕ) → I .next s c ≡ Loose .next s c) → ⊥
+unfolding cap-option
+loose-is-none I e same =
+    let one = I .next-state 0 0 1 (subst (I .state) e (I .start-state)) (same 0 0) in
+    I .never-both 1 one 2 2 0 (same 1 0) (omega arith, tt) (same 1 2)
 
 -- 3. the search: Prompt refines Loose; Loose may let two ticks pass, which Prompt cannot
 prompt-loose : search-run Prompt Loose ≡ []
-unfolding search-run departure-length gone left-after walk first bad pairs pair-ok step-ok input-ok own-ok pruned if-in stage round sieve table all any least _⇒_ stays lands cap-option safe-states safe-test input-stays own-lands
+unfolding opened
 prompt-loose = refl
 
 loose-prompt : search-run Loose Prompt ≡ 0 ∷ 0 ∷ []
-unfolding search-run departure-length gone left-after walk first bad pairs pair-ok step-ok input-ok own-ok pruned if-in stage round sieve table all any least _⇒_ stays lands cap-option safe-states safe-test input-stays own-lands
+unfolding opened
 loose-prompt = refl
+
+-- by ticks Silent comes to states that are not safe, and the search follows it there: the right is not pruned
+loose-silent : search-run Loose Silent ≡ 0 ∷ 0 ∷ []
+unfolding opened
+loose-silent = refl
 
 -- 4. tables
 prompt-loose-widest : widest Prompt Loose ≡ true ∷ true ∷ true ∷ false ∷ true ∷ true ∷ false ∷ false ∷ false ∷ []
-unfolding widest pairs pair-ok step-ok input-ok own-ok pruned if-in stage round sieve table all any _⇒_ stays lands cap-option safe-states safe-test input-stays own-lands
+unfolding opened
 prompt-loose-widest = refl
 
 -- the pairs of equal numbers with a true invariant; of equal numbers; the start pair alone
-diagonal-accepted : check Prompt Loose (λ s t. eqb s t && holds true s) ≡ true
-unfolding check entry-ok pair-ok step-ok input-ok own-ok pruned if-in all _⇒_ stays lands cap-option
-diagonal-accepted = rw prompt-safe refl
+abbrev diagonal : ℕ → ℕ → Bool
+diagonal s t = eqb s t && holds true s
+
+diagonal-accepted : check Prompt Loose diagonal ≡ true
+unfolding opened
+diagonal-accepted = refl
 
 false-invariant-refused : check Prompt Loose (λ s t. eqb s t) ≡ false
-unfolding check entry-ok pair-ok step-ok input-ok own-ok pruned if-in all _⇒_ stays lands cap-option
-false-invariant-refused = rw prompt-safe refl
+unfolding opened
+false-invariant-refused = refl
 
 start-alone-refused : check Prompt Loose (λ s t. eqb s 0 && eqb t 0) ≡ false
-unfolding check entry-ok pair-ok step-ok input-ok own-ok pruned if-in all _⇒_ stays lands cap-option
-start-alone-refused = rw prompt-safe refl
+unfolding opened
+start-alone-refused = refl
 
 -- what the theorems say of these systems with the uncapped clock
-prompt-implements-loose : (I : Implementation bell) → Satisfies I (clock true true) → Satisfies I (clock false true)
-prompt-implements-loose = search-implementations (capping true true) (capping false true) prompt-start .0 prompt-loose
+prompt-implements-loose : (I : Implementation bell) → Satisfies I prompt → Satisfies I loose
+prompt-implements-loose = search-implementations prompt-capping loose-capping prompt-start .0 prompt-loose
 
-loose-departs : Shortest-departure (clock false true) (clock true true) (Safe-at (capping false true)) (0 ∷ 0 ∷ [])
-loose-departs = rw loose-prompt at (search-shortest (capping false true) (capping true true) loose-start found)
+loose-departs : Shortest-departure loose prompt (Safe-at loose-capping) (0 ∷ 0 ∷ [])
+loose-departs = rw loose-prompt at (search-shortest loose-capping prompt-capping loose-start found)
   where
     found : search-run Loose Prompt ≡ [] → ⊥
     found e = let k : _≡_ {A = ℕ} 2 0 = ap length (sym loose-prompt ∙ e) in absurd (omega arith)
 
-loose-made : (I : Implementation bell) × Satisfies I (clock false true) × Makes I (0 ∷ 0 ∷ []) × (Allows (clock true true) (0 ∷ 0 ∷ []) → ⊥)
-loose-made = departure-made-by (capping false true) (capping true true) loose-start (0 ∷ 0 ∷ []) (loose-departs .departure)
+loose-made : (I : Implementation bell) × Satisfies I loose × Makes I (0 ∷ 0 ∷ []) × (Allows prompt (0 ∷ 0 ∷ []) → ⊥)
+loose-made = departure-made-by loose-capping prompt-capping loose-start (0 ∷ 0 ∷ []) (loose-departs .departure)
 
-loose-prefix : (u : List ℕ) × (v : List ℕ) × ((0 ∷ 0 ∷ []) ≡ u ++ v) × Departure (clock false true) (clock true true) (Safe-at (capping false true)) u
-loose-prefix = let (I, S, p, n) = loose-made in departure-as-prefix (capping false true) (capping true true) I S (0 ∷ 0 ∷ []) p n
+loose-prefix : (u : List ℕ) × (v : List ℕ) × ((0 ∷ 0 ∷ []) ≡ u ++ v) × Departure loose prompt (Safe-at loose-capping) u
+loose-prefix = let (I, S, p, n) = loose-made in departure-as-prefix loose-capping prompt-capping I S (0 ∷ 0 ∷ []) p n
 
-diagonal-refines : Refines (clock true true) (clock false true) (Safe-at (capping true true)) (Denoted (capping true true) (capping false true) (λ s t. eqb s t && holds true s))
-diagonal-refines = check-exactly (capping true true) (capping false true) (λ s t. eqb s t && holds true s) .0 (rw diagonal-accepted tt) .1
+diagonal-refines : Refines prompt loose (Safe-at prompt-capping) (Denoted prompt-capping loose-capping diagonal)
+diagonal-refines = check-exactly prompt-capping loose-capping diagonal .0 (rw diagonal-accepted tt) .1
 
 -- the widest table has the start pair, so the widest relation holds between the starts
-starts-widest : Widest (capping true true) (capping false true) 0 0
+starts-widest : Widest prompt-capping loose-capping 0 0
 starts-widest = (omega arith, omega arith, rw prompt-loose-widest tt)

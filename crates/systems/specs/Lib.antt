@@ -1,6 +1,9 @@
 pub mod Definitions
 pub mod Tests
 pub mod Finite
+pub mod Theorems
+pub mod Examples
+pub mod Posts
 pub mod Bools
 pub mod Sieve
 pub mod Safe
@@ -8,12 +11,9 @@ pub mod Implementation
 pub mod Departure
 pub mod Refinement
 pub mod Search
-pub mod Consequences
-pub mod Bfs
-pub mod Queue
-pub mod Compute
 pub mod Capped
 pub mod Renumbered
-pub mod Theorems
-pub mod Examples
-pub mod Posts
+pub mod Consequences
+pub mod Compute
+pub mod Bfs
+pub mod Queue

@@ -3,7 +3,7 @@
 use mathlib.Core.Path.{_≡_, refl}
 use mathlib.Core.Bool.{Bool, true, false, cond}
 use mathlib.Core.Option.{Option, none, some}
-use Prim.Native.Nat.{ℕ, _≤_}
+use Prim.Native.Nat.{ℕ}
 use lib.Dec.{T, leb, leb→le, le→leb}
 use Rattle.systems.specs.Bools.{T-true, none-some}
 use Rattle.systems.specs.Definitions.{Signature, Input, System}
@@ -41,7 +41,8 @@ module _ {A B : Signature} (f : ℕ → ℕ) where
           (t, rw (T-true (leb c (A .channels)) (le→leb c (A .channels) (A .input-known c i))) e);
     }
 
-    unfoldable pub renumbered-capping : (N : System B) (R : Finite-system B) → Capping N R → Capping (renumbered-system N) (renumbered R)
+    unfoldable pub renumbered-capping : (N : System B) (R : Finite-system B) → Capping N R
+        → Capping (renumbered-system N) (renumbered R)
     unfolding renumbered-system renumbered cap-option
     renumbered-capping N R C = record {
       cap = C .cap;
@@ -52,6 +53,7 @@ module _ {A B : Signature} (f : ℕ → ℕ) where
       agree = λ y c l. go (leb c (A .channels)) (N .next y (f c)) (R .next (C .cap y) (f c)) (C .agree y (f c) l);
     }
       where
-        go : (b : Bool) (o : Option (N .State)) (p : Option ℕ) → p ≡ cap-option (C .cap) o → cond b p none ≡ cap-option (C .cap) (cond b o none)
+        go : (b : Bool) (o : Option (N .State)) (p : Option ℕ) → p ≡ cap-option (C .cap) o
+            → cond b p none ≡ cap-option (C .cap) (cond b o none)
         go true o p e = e
         go false o p e = refl

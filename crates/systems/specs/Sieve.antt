@@ -1,15 +1,15 @@
--- Laws of removal from a table (Tests.antt): rounds of it come to the largest part that a rule keeps,
--- and so does removal of one entry at a time in any order.
+-- Laws of removal from a table (Tests.antt): rounds of it come to the largest part that a rule keeps, and so does
+-- removal of one entry at a time in any order.
 use mathlib.Core.Path.{_≡_, refl, sym, subst, ap, _∙_}
 use mathlib.Core.Logic.{_↔_, _⊎_, _≢_, inl, inr, ⊎-elim}
-use mathlib.Core.Bool.{Bool, true, false, not, _&&_, _||_}
+use mathlib.Core.Bool.{Bool, true, false, not, _&&_}
 use mathlib.Core.List.{List, [], _∷_}
 use Prim.Native.Nat.{ℕ, zero, suc, _+_, _≤_, _<_}
 use native.Mathlib.Nat.{eq-or-lt-of-le}
 use native.Mathlib.Omega.{arith}
 use lib.Dec.{T, T-not, eqb, eqb→eq}
 use native.Mathlib.Decide.{ℕ-discrete}
-use lib.ListN.{length, getD, set, replicate, getD-replicate}
+use lib.ListN.{length, set, replicate, getD-replicate}
 use Rattle.systems.specs.Tests.{at, ones, sieve, table, round, stage}
 use Rattle.systems.specs.Bools.{and-T, and-left, and-right}
 
@@ -35,7 +35,8 @@ unfolding sieve ones
 sieve-same p i [] h = refl
 sieve-same p i (true ∷ X) h = go (p i) (ones-sieve p (suc i) X) (sieve-same p (suc i) X) h
   where
-    go : (b : Bool) → ones (sieve p (suc i) X) ≤ ones X → (ones X ≤ ones (sieve p (suc i) X) → sieve p (suc i) X ≡ X) → suc (ones X) ≤ ones (b ∷ sieve p (suc i) X) → _≡_ {A = List Bool} (b ∷ sieve p (suc i) X) (true ∷ X)
+    go : (b : Bool) → ones (sieve p (suc i) X) ≤ ones X → (ones X ≤ ones (sieve p (suc i) X) → sieve p (suc i) X ≡ X)
+        → suc (ones X) ≤ ones (b ∷ sieve p (suc i) X) → _≡_ {A = List Bool} (b ∷ sieve p (suc i) X) (true ∷ X)
     go true l ih h = ap (λ (Y : List Bool). true ∷ Y) (ih (omega arith))
     go false l ih h = absurd (omega arith)
 sieve-same p i (false ∷ X) h = ap (λ (Y : List Bool). false ∷ Y) (sieve-same p (suc i) X h)
@@ -47,23 +48,28 @@ module _ (keep : List Bool → ℕ → Bool) where
 
   falls : (X : List Bool) → (round keep X ≡ X) ⊎ (ones (round keep X) < ones X)
   unfolding round
-  falls X = ⊎-elim (λ e. inl (sieve-same (keep X) 0 X (omega arith))) (λ l. inr l) (eq-or-lt-of-le (ones-sieve (keep X) 0 X))
+  falls X = ⊎-elim (λ e. inl (sieve-same (keep X) 0 X (omega arith))) (λ l. inr l)
+      (eq-or-lt-of-le (ones-sieve (keep X) 0 X))
 
-  falls-to : (X : List Bool) (n : ℕ) → (round keep (stage keep X n) ≡ stage keep X n) ⊎ (ones (stage keep X n) + n ≤ ones X)
+  falls-to : (X : List Bool) (n : ℕ) → (round keep (stage keep X n) ≡ stage keep X n) ⊎
+      (ones (stage keep X n) + n ≤ ones X)
   unfolding stage
   falls-to X zero = inr (omega arith)
-  falls-to X (suc n) = ⊎-elim (λ e. inl (ap (round keep) e)) (λ l. ⊎-elim (λ e. inl (ap (round keep) e)) (λ k. inr (omega arith)) (falls (stage keep X n))) (falls-to X n)
+  falls-to X (suc n) = ⊎-elim (λ e. inl (ap (round keep) e))
+      (λ l. ⊎-elim (λ e. inl (ap (round keep) e)) (λ k. inr (omega arith)) (falls (stage keep X n))) (falls-to X n)
 
   -- after as many rounds as the table has entries set, nothing more is removed
   pub settled : (X : List Bool) (n : ℕ) → ones X ≤ n → round keep (stage keep X n) ≡ stage keep X n
   unfolding round
-  settled X n h = ⊎-elim (λ e. e) (λ l. sieve-same (keep (stage keep X n)) 0 (stage keep X n) (omega arith)) (falls-to X n)
+  settled X n h = ⊎-elim (λ e. e) (λ l. sieve-same (keep (stage keep X n)) 0 (stage keep X n) (omega arith))
+      (falls-to X n)
 
   -- each round only removes
   pub stage-within : (X : List Bool) (n : ℕ) (i : ℕ) → T (at (stage keep X n) i) → T (at X i)
   unfolding stage
   stage-within X zero i t = t
-  stage-within X (suc n) i t = stage-within X n i (and-left (at (stage keep X n) i) (keep (stage keep X n) i) (subst T (at-round (stage keep X n) i) t))
+  stage-within X (suc n) i t = stage-within X n i
+      (and-left (at (stage keep X n) i) (keep (stage keep X n) i) (subst T (at-round (stage keep X n) i) t))
 
   -- at most n rounds, and none after one that removes nothing
   unfoldable pub settle : List Bool → ℕ → List Bool
@@ -85,7 +91,8 @@ module _ (keep : List Bool → ℕ → Bool) where
   settle-stage X zero = refl
   settle-stage X (suc n) = go (eqb (ones (round keep X)) (ones X)) refl (settle-stage (round keep X) n)
     where
-      go : (b : Bool) → eqb (ones (round keep X)) (ones X) ≡ b → settle (round keep X) n ≡ stage keep (round keep X) n → (elim b [ true ↦ X | false ↦ settle (round keep X) n ]) ≡ stage keep X (suc n)
+      go : (b : Bool) → eqb (ones (round keep X)) (ones X) ≡ b → settle (round keep X) n ≡ stage keep (round keep X) n
+          → (elim b [ true ↦ X | false ↦ settle (round keep X) n ]) ≡ stage keep X (suc n)
       go true e ih =
           let f : ones (round keep X) ≡ ones X = eqb→eq (ones (round keep X)) (ones X) (subst T (sym e) tt) in
           sym (stage-same X (suc n) (sieve-same (keep X) 0 X (omega arith)))
@@ -102,7 +109,11 @@ module _ (keep : List Bool → ℕ → Bool) (i : ℕ) where
   trail X older zero = []
   trail X older (suc n) =
       let Y = round keep X in
-      elim (at Y i) [ false ↦ X ∷ older | true ↦ elim (eqb (ones Y) (ones X)) [ true ↦ [] | false ↦ trail Y (X ∷ older) n ] ]
+      elim (at Y i) [
+        | false ↦ X ∷ older
+        | true ↦ elim (eqb (ones Y) (ones X))
+            [ true ↦ [] | false ↦ trail Y (X ∷ older) n ]
+      ]
 
   -- an entry that is there later was there before
   pub stage-later : (X : List Bool) (k n : ℕ) → T (at (stage keep X (n + k)) i) → T (at (stage keep X k) i)
@@ -111,31 +122,44 @@ module _ (keep : List Bool → ℕ → Bool) (i : ℕ) where
   stage-later X k (suc n) t =
       let e : suc n + k ≡ suc (n + k) = omega arith in
       let u : T (at (stage keep X (suc (n + k))) i) = rw e at t in
-      stage-later X k n (and-left (at (stage keep X (n + k)) i) (keep (stage keep X (n + k)) i) (subst T (at-round keep (stage keep X (n + k)) i) u))
+      stage-later X k n (and-left (at (stage keep X (n + k)) i) (keep (stage keep X (n + k)) i)
+      (subst T (at-round keep (stage keep X (n + k)) i) u))
 
-  stage-stable : (X : List Bool) (k n : ℕ) → round keep (stage keep X k) ≡ stage keep X k → stage keep X (n + k) ≡ stage keep X k
+  stage-stable : (X : List Bool) (k n : ℕ) → round keep (stage keep X k) ≡ stage keep X k
+      → stage keep X (n + k) ≡ stage keep X k
   unfolding stage
   stage-stable X k zero e = let f : 0 + k ≡ k = omega arith in ap (stage keep X) f
-  stage-stable X k (suc n) e = let f : suc n + k ≡ suc (n + k) = omega arith in ap (stage keep X) f ∙ ap (round keep) (stage-stable X k n e) ∙ e
+  stage-stable X k (suc n) e = let f : suc n + k ≡ suc (n + k) = omega arith in
+      ap (stage keep X) f ∙ ap (round keep) (stage-stable X k n e) ∙ e
 
   -- what a trail says of entry i up to round m
   abbrev pub Trail : List Bool → ℕ → List (List Bool) → Type 0
   Trail X m l =
       ((l ≡ []) × T (at (stage keep X m) i))
-      ⊎ ((j : ℕ) × (l ≡ stages keep X (suc j)) × T (at (stage keep X j) i) × T (not (at (stage keep X (suc j)) i)) × (suc j ≤ m))
+      ⊎ ((j : ℕ) × (l ≡ stages keep X (suc j)) × T (at (stage keep X j) i) × T (not (at (stage keep X (suc j)) i))
+      × (suc j ≤ m))
 
-  pub trail-spec : (X : List Bool) (n k : ℕ) → T (at (stage keep X k) i) → Trail X (n + k) (trail (stage keep X k) (stages keep X k) n)
+  pub trail-spec : (X : List Bool) (n k : ℕ) → T (at (stage keep X k) i)
+      → Trail X (n + k) (trail (stage keep X k) (stages keep X k) n)
   unfolding trail stage stages round
   trail-spec X zero k t = let e : 0 + k ≡ k = omega arith in rw e (inl (refl, t))
-  trail-spec X (suc n) k t = go (at (stage keep X (suc k)) i) refl (eqb (ones (stage keep X (suc k))) (ones (stage keep X k))) refl (trail-spec X n (suc k))
+  trail-spec X (suc n) k t = go (at (stage keep X (suc k)) i) refl
+      (eqb (ones (stage keep X (suc k))) (ones (stage keep X k))) refl (trail-spec X n (suc k))
     where
-      go : (a : Bool) → at (stage keep X (suc k)) i ≡ a → (b : Bool) → eqb (ones (stage keep X (suc k))) (ones (stage keep X k)) ≡ b
-          → (T (at (stage keep X (suc k)) i) → Trail X (n + suc k) (trail (stage keep X (suc k)) (stages keep X (suc k)) n))
-          → Trail X (suc n + k) (elim a [ false ↦ stages keep X (suc k) | true ↦ elim b [ true ↦ [] | false ↦ trail (stage keep X (suc k)) (stages keep X (suc k)) n ] ])
+      go : (a : Bool) → at (stage keep X (suc k)) i ≡ a → (b : Bool)
+          → eqb (ones (stage keep X (suc k))) (ones (stage keep X k)) ≡ b
+          → (T (at (stage keep X (suc k)) i) → Trail X (n + suc k)
+          (trail (stage keep X (suc k)) (stages keep X (suc k)) n))
+          → Trail X (suc n + k) (elim a [
+            | false ↦ stages keep X (suc k)
+            | true ↦ elim b
+                [ true ↦ [] | false ↦ trail (stage keep X (suc k)) (stages keep X (suc k)) n ]
+          ])
       go false e b f ih = inr (k, refl, t, subst (λ (x : Bool). T (not x)) (sym e) tt, omega arith)
       go true e true f ih =
           let g : ones (stage keep X (suc k)) ≡ ones (stage keep X k) = eqb→eq _ _ (subst T (sym f) tt) in
-          let same : round keep (stage keep X k) ≡ stage keep X k = sieve-same (keep (stage keep X k)) 0 (stage keep X k) (omega arith) in
+          let same : round keep (stage keep X k) ≡ stage keep X k = sieve-same (keep (stage keep X k)) 0
+          (stage keep X k) (omega arith) in
           inl (refl, rw (stage-stable X k (suc n) same) t)
       go true e false f ih = let g : suc n + k ≡ n + suc k = omega arith in rw g (ih (subst T (sym e) tt))
 
@@ -149,20 +173,24 @@ pub record Rule : Type 1 where
 
 module _ (R : Rule) where
   -- what is left in the end meets the rule
-  pub stage-keeps : (X : List Bool) (n : ℕ) → ones X ≤ n → (i : ℕ) → T (at (stage (R .keep) X n) i) → R .Keep (λ j. T (at (stage (R .keep) X n) j)) i
+  pub stage-keeps : (X : List Bool) (n : ℕ) → ones X ≤ n → (i : ℕ) → T (at (stage (R .keep) X n) i)
+      → R .Keep (λ j. T (at (stage (R .keep) X n) j)) i
   stage-keeps X n h i t =
       let Y = stage (R .keep) X n in
-      let e : at Y i ≡ (at Y i && R .keep Y i) = ap (λ (Z : List Bool). at Z i) (sym (settled (R .keep) X n h)) ∙ at-round (R .keep) Y i in
+      let e : at Y i ≡ (at Y i && R .keep Y i) = ap (λ (Z : List Bool). at Z i)
+      (sym (settled (R .keep) X n h)) ∙ at-round (R .keep) Y i in
       R .sound Y i (and-right (at Y i) (R .keep Y i) (subst T e t))
 
   -- whatever lies in the table and meets the rule is never removed
-  pub stage-largest : (P : ℕ → Type 0) (X : List Bool) → ((i : ℕ) → P i → T (at X i)) → ((i : ℕ) → P i → R .Keep P i) → (n i : ℕ) → P i → T (at (stage (R .keep) X n) i)
+  pub stage-largest : (P : ℕ → Type 0) (X : List Bool) → ((i : ℕ) → P i → T (at X i)) → ((i : ℕ) → P i → R .Keep P i)
+      → (n i : ℕ) → P i → T (at (stage (R .keep) X n) i)
   unfolding stage
   stage-largest P X within meets zero i h = within i h
   stage-largest P X within meets (suc n) i h =
       let ih : (j : ℕ) → P j → T (at (stage (R .keep) X n) j) = stage-largest P X within meets n in
       let Y = stage (R .keep) X n in
-      subst T (sym (at-round (R .keep) Y i)) (and-T (at Y i) (R .keep Y i) (ih i h) (R .complete Y i (R .mono P (λ j. T (at Y j)) ih i (meets i h))))
+      subst T (sym (at-round (R .keep) Y i)) (and-T (at Y i) (R .keep Y i) (ih i h)
+      (R .complete Y i (R .mono P (λ j. T (at Y j)) ih i (meets i h))))
 
 -- removal in any order: a table between what is left in the end and where it began
 pub record Between (R : Rule) (X Y : List Bool) : Type 0 where
@@ -174,20 +202,28 @@ module _ (R : Rule) (X Y : List Bool) where
   between-start = record { inside = λ i t. t; around = λ i t. stage-within (R .keep) X (ones X) i t }
 
   -- an entry that fails the test may be cleared
-  pub between-clear : (Z : List Bool) (i : ℕ) → Between R X Y → T (not (R .keep Y i)) → ((j : ℕ) → T (at Z j) → T (at Y j)) → ((j : ℕ) → j ≢ i → T (at Y j) → T (at Z j)) → Between R X Z
+  pub between-clear : (Z : List Bool) (i : ℕ) → Between R X Y → T (not (R .keep Y i))
+      → ((j : ℕ) → T (at Z j) → T (at Y j)) → ((j : ℕ) → j ≢ i → T (at Y j) → T (at Z j)) → Between R X Z
   between-clear Z i B bad sub other = record {
     inside = λ j t. B .inside j (sub j t);
-    around = λ j t. elim (ℕ-discrete j i) [ yes e ↦ absurd (T-not (R .keep Y i) bad (kept (subst (λ (k : ℕ). T (at (stage (R .keep) X (ones X)) k)) e t))) | no n ↦ other j n (B .around j t) ];
+    around = λ j t. elim (ℕ-discrete j i) [
+      | yes e ↦ absurd (T-not (R .keep Y i) bad (kept (subst (λ (k : ℕ). T (at (stage (R .keep) X (ones X)) k)) e t)))
+      | no n
+          ↦ other j n (B .around j t)
+    ];
   }
     where
       kept : T (at (stage (R .keep) X (ones X)) i) → T (R .keep Y i)
-      kept t = R .complete Y i (R .mono (λ j. T (at (stage (R .keep) X (ones X)) j)) (λ j. T (at Y j)) (B .around) i (stage-keeps R X (ones X) (omega arith) i t))
+      kept t = R .complete Y i (R .mono (λ j. T (at (stage (R .keep) X (ones X)) j)) (λ j. T (at Y j)) (B .around) i
+          (stage-keeps R X (ones X) (omega arith) i t))
 
   -- where every entry passes, the removal is done
-  pub between-done : Between R X Y → ((i : ℕ) → T (at Y i) → T (R .keep Y i)) → (n : ℕ) → ones X ≤ n → (i : ℕ) → T (at Y i) ↔ T (at (stage (R .keep) X n) i)
+  pub between-done : Between R X Y → ((i : ℕ) → T (at Y i) → T (R .keep Y i)) → (n : ℕ) → ones X ≤ n → (i : ℕ)
+      → T (at Y i) ↔ T (at (stage (R .keep) X n) i)
   between-done B all n l i = (
     λ t. stage-largest R (λ j. T (at Y j)) X (B .inside) (λ j u. R .sound Y j (all j u)) n i t,
-    λ t. B .around i (stage-largest R (λ j. T (at (stage (R .keep) X n) j)) X (stage-within (R .keep) X n) (stage-keeps R X n l) (ones X) i t),
+    λ t. B .around i (stage-largest R (λ j. T (at (stage (R .keep) X n) j)) X (stage-within (R .keep) X n)
+        (stage-keeps R X n l) (ones X) i t),
   )
 
 replicate-in : (n i : ℕ) → T (at (replicate n true) i) → i < n
@@ -197,9 +233,14 @@ replicate-in (suc n) (suc i) t = let h = replicate-in n i t in omega arith
 pub at-table : (n : ℕ) (p : ℕ → Bool) (i : ℕ) → T (at (table n p) i) ↔ ((i < n) × T (p i))
 unfolding table
 at-table n p i =
-    let e : at (sieve p 0 (replicate n true)) i ≡ (at (replicate n true) i && p i) = at-sieve p 0 (replicate n true) i ∙ ap (λ (k : ℕ). at (replicate n true) i && p k) (omega arith) in (
-      λ t. let u : T (at (replicate n true) i && p i) = subst T e t in (replicate-in n i (and-left (at (replicate n true) i) (p i) u), and-right (at (replicate n true) i) (p i) u),
-      λ h. subst T (sym e) (and-T (at (replicate n true) i) (p i) (subst T (sym (getD-replicate n i true false (h .0))) tt) (h .1)),
+    let e : at (sieve p 0 (replicate n true)) i ≡ (at (replicate n true) i && p i) = at-sieve p 0
+    (replicate n true) i ∙ ap (λ (k : ℕ). at (replicate n true) i && p k) (omega arith) in (
+      λ t. let u : T (at (replicate n true) i && p i) = subst T e t in (
+        replicate-in n i (and-left (at (replicate n true) i) (p i) u),
+        and-right (at (replicate n true) i) (p i) u,
+      ),
+      λ h. subst T (sym e) (and-T (at (replicate n true) i) (p i)
+          (subst T (sym (getD-replicate n i true false (h .0))) tt) (h .1)),
     )
 
 ones-replicate : (n : ℕ) → ones (replicate n true) ≡ n

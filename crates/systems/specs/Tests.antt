@@ -1,4 +1,5 @@
--- Tests of numbers and tables of Booleans: the words in which Finite.antt computes. Definitions only; laws in Bools.antt and Sieve.antt.
+-- Tests of numbers and tables of Booleans: the words in which Finite.antt computes. Definitions only; laws in
+-- Bools.antt and Sieve.antt.
 use mathlib.Core.Bool.{Bool, true, false, not, _&&_, _||_}
 use mathlib.Core.Option.{Option, none, some}
 use mathlib.Core.List.{List, [], _∷_}

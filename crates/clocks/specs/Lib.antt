@@ -1,0 +1,13 @@
+pub mod Meaning
+pub mod States
+pub mod Accepted
+pub mod Safe
+pub mod Numbers
+pub mod Edges
+pub mod Agreement
+pub mod Judgement
+pub mod Contract
+pub mod Results
+pub mod Encoded
+pub mod Test
+pub mod Post

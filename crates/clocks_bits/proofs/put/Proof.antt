@@ -1,0 +1,43 @@
+-- `clocks_bits::put` meets its contract: each need, from the callees' contracts and the laws in the `use` lines.
+use borrow.Author.Needs.{needs}
+use native.Mathlib.Omega.{arith}
+use Prim.Native.Nat.{_-_, _/_, _%_}
+use borrow.Author.Tests.{eqb-false}
+use lib.ListN.{getD}
+use Rattle.clocks_bits.specs.Bits.{bit-at, clear-one}
+use Rattle.clocks_bits.specs.Put.{put-off, put-on, bit-room}
+use Rattle.clocks_bits.proofs.put.Statement.{statement}
+use Rattle.clocks_bits.proofs.put.Tie as tie
+
+sub-k : tie.Need-sub-k
+sub-k c = search needs
+
+slice-read-s : tie.Need-slice-read-s
+slice-read-s c = search needs
+
+cast-s : tie.Need-cast-s
+cast-s c = search needs
+
+shl-s : tie.Need-shl-s
+shl-s c = search needs
+
+add-s : tie.Need-add-s
+unfolding bit-at
+add-s c = rw (clear-one (7 - c .before .before .args .i % 8) (omega arith)) (omega (arith, bit-room (getD (c .before .before .args .s .now) (c .before .before .args .i / 8) 0) (7 - c .before .before .args .i % 8) (omega arith) (omega (arith, c .slice-known .given (c .before .before .args .i / 8))) (eqb-false _ 1 (c .before .before .pre .1))))
+
+slice-write-s : tie.Need-slice-write-s
+slice-write-s c = search needs
+
+same-length : tie.Need-same-length
+same-length c = search needs
+
+returns : tie.Need-returns
+returns c = rw (clear-one (7 - c .before .before .args .i % 8) (omega arith)) (put-on (c .before .before .args .s .now) (c .before .before .args .i) (c .before .before .args .b) (c .before .if1 .taken))
+
+returns-2 : tie.Need-returns-2
+returns-2 c = put-off (c .before .args .s .now) (c .before .args .i) (c .before .args .b) (c .if1 .left)
+
+pub put-spec : {M : Type 1} → statement M
+put-spec =
+    tie.close
+    (tie.spec sub-k slice-read-s cast-s shl-s add-s slice-write-s same-length returns returns-2)

@@ -1,0 +1,4 @@
+pub mod Bits
+pub mod Moves
+pub mod Packed
+pub mod Put

@@ -1,0 +1,52 @@
+-- Document 01's operation "read": what it gives for each text.
+use mathlib.Core.List.{List}
+use Prim.Native.Nat.{ℕ}
+use Rattle.refusals.specs.declared.Refusal.{Refusal}
+use Rattle.refusals.specs.Refusals.{too-many-states, input-without-move, two-edges}
+use Rattle.reader_record.specs.declared.Text.{Text}
+use Rattle.reader_lists.specs.State.{no-text}
+use Rattle.reader.specs.declared.Answer.{Answer}
+use Rattle.reader.specs.declared.Answer.the-variants as parsed
+use Rattle.reader.specs.Reading.{read-text}
+use Rattle.clocks.specs.declared.Judged.{Judged}
+use Rattle.clocks.specs.declared.Judged.the-variants.{Clean, TooMany, NoMove, TwoEdges}
+use Rattle.clocks.specs.States.{state-count, judgement, judged-table, judged-holds}
+use Rattle.clocks_read.specs.declared.ReadAnswer.{ReadAnswer}
+use Rattle.clocks_read.specs.declared.ReadAnswer.the-variants.{Accepted, Refused}
+use Rattle.clocks_read.specs.declared.Reading.{Reading}
+
+-- a refused text has the fixed empty record and no states
+unfoldable pub refused : Refusal → Reading
+refused f = record { answer = Refused f; text = no-text; states = 0 }
+
+-- codes 9 to 11
+unfoldable pub judged-reading : Judged → Text → Reading
+judged-reading Clean t = record { answer = Accepted; text = t; states = state-count t }
+judged-reading (TooMany n) t = refused (too-many-states n)
+judged-reading (NoMove s c) t = refused (input-without-move s c)
+judged-reading (TwoEdges s c) t = refused (two-edges s c)
+
+-- codes 1 to 8 come before them
+unfoldable pub parsed-reading : Answer → Text → Reading
+parsed-reading parsed.Accepted t = judged-reading (judgement t) t
+parsed-reading (parsed.Refused f) t = refused f
+
+-- reading: the answer, the record and the state count
+unfoldable pub read-outcome : List ℕ → Reading
+read-outcome s = parsed-reading (read-text s .answer) (read-text s .text)
+
+-- the same with the move table and the bits of the states whose invariant holds, written over what was there
+pub record Loading : Type 0 where
+  pub reading : Reading
+  pub moves : List ℕ
+  pub holds : List ℕ
+
+unfoldable pub judged-loading : Text → List ℕ → List ℕ → Loading
+judged-loading t m h = record { reading = judged-reading (judgement t) t; moves = judged-table t m; holds = judged-holds t h }
+
+unfoldable pub parsed-loading : Answer → Text → List ℕ → List ℕ → Loading
+parsed-loading parsed.Accepted t m h = judged-loading t m h
+parsed-loading (parsed.Refused f) t m h = record { reading = refused f; moves = m; holds = h }
+
+unfoldable pub load-outcome : List ℕ → List ℕ → List ℕ → Loading
+load-outcome s m h = parsed-loading (read-text s .answer) (read-text s .text) m h

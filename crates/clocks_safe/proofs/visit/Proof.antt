@@ -1,0 +1,51 @@
+-- `clocks_safe::visit` meets its contract: each need, from the callees' contracts and the laws in the `use` lines.
+use native.Mathlib.Omega.{arith}
+use mathlib.Core.Path.{_≡_, sym, _∙_, ap, refl}
+use mathlib.Core.Logic.{inl, inr}
+use mathlib.Core.Bool.{Bool, true, false}
+use Prim.Native.Nat.{ℕ, _+_, _-_, _*_, _/_, _%_, _^_, _≤_, _<_}
+use borrow.Author.Tests.{not-true, not-false}
+use borrow.Author.Needs.{needs}
+use Rattle.clocks_safe.proofs.visit.Statement.{statement}
+use Rattle.clocks_safe.proofs.visit.Tie as tie
+
+get-requires : tie.Need-get-requires
+get-requires c κs = search needs
+
+same-length : tie.Need-same-length
+same-length c = search needs
+
+returns : tie.Need-returns
+returns c = inl (refl, refl, λ e. let z : _≡_ {A = ℕ} 0 1 = cc (e, c .before .get .ensures, not-true (c .before .get .result) (c .if1 .taken)) in absurd (omega arith))
+
+passes-requires : tie.Need-passes-requires
+passes-requires c κs = search needs
+
+same-length-2 : tie.Need-same-length-2
+same-length-2 c = search needs
+
+returns-2 : tie.Need-returns-2
+returns-2 c = inl (refl, refl, λ e. sym (c .before .passes .ensures) ∙ c .if2 .taken)
+
+clear-requires : tie.Need-clear-requires
+clear-requires c κs = (search needs, sym (c .before .before .before .before .before .get .ensures) ∙ not-false (c .before .before .before .before .before .get .result) (c .before .before .before .before .if1 .left))
+
+same-length-3 : tie.Need-same-length-3
+same-length-3 c = search needs
+
+returns-3 : tie.Need-returns-3
+returns-3 c = inr (refl, c .before .before .clear .ensures, sym (c .before .before .before .before .before .before .before .before .get .ensures) ∙ not-false (c .before .before .before .before .before .before .before .before .get .result) (c .before .before .before .before .before .before .before .if1 .left), sym (c .before .before .before .before .before .passes .ensures) ∙ c .before .before .before .before .if2 .left)
+
+pub visit-spec : {M : Type 1} → statement M
+visit-spec =
+    tie.close
+    (tie.spec
+    get-requires
+    same-length
+    returns
+    passes-requires
+    same-length-2
+    returns-2
+    clear-requires
+    same-length-3
+    returns-3)

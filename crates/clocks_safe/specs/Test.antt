@@ -1,0 +1,103 @@
+-- The test of a safe state, on slices.
+use mathlib.Core.Path.{_≡_, refl, sym, subst, ap, _∙_}
+use mathlib.Core.Logic.{_⊎_, inl, inr, ⊎-elim, _≢_}
+use mathlib.Core.Bool.{Bool, true, false, not, _&&_, _||_}
+use mathlib.Core.Option.{Option, none, some}
+use mathlib.Core.List.{List}
+use Prim.Native.Nat.{ℕ, zero, suc, _+_, _-_, _*_, _/_, _%_, _^_, _≤_, _<_}
+use native.Mathlib.Numerals.{add-one}
+use native.Mathlib.Omega.{arith}
+use lib.Dec.{T, T-not}
+use lib.ListN.{length, getD, set}
+use lib.Seq.{getD-set-other}
+use Rattle.systems.specs.Bools.{T-true, T-false, T-dec, all-elim, all-intro, any-intro, any-elim}
+use Rattle.systems.specs.Tests.{all, any, _⇒_, stays, lands, at, ones, table, sieve, stage, round}
+use Rattle.systems.specs.Sieve.{at-table, ones-table, Between, between-start, between-clear, between-done}
+use Rattle.systems.specs.Definitions.{Signature}
+use Rattle.systems.specs.Finite.{Finite-system, input-stays, own-lands, safe-test, safe-states}
+use Rattle.systems.specs.Safe.{safe-rule}
+use Rattle.clocks_bits.specs.Bits.{bit-at}
+use Rattle.clocks_bits.specs.Moves.{decode, decode-inside, Encodes, Encoded, Bounded}
+use Rattle.clocks_bits.specs.Packed.{Packed, packed, packed-bit, packed-clear, packed-unique, ones-clear, bytes}
+
+unfoldable pub input-passes : (ℕ → Bool) → ℕ → Bool → Bool
+input-passes p t input = input ⇒ stays p (decode t)
+
+unfoldable pub own-passes : (ℕ → Bool) → ℕ → Bool → Bool
+own-passes p t input = not input && lands p (decode t)
+
+module _ (m : List ℕ) (inputs : List Bool) (steps : ℕ) (p : ℕ → Bool) (s : ℕ) where
+  unfoldable pub input-at : ℕ → Bool
+  input-at c = input-passes p (getD m (s * steps + c) 0) (getD inputs c false)
+
+  unfoldable pub own-at : ℕ → Bool
+  own-at c = own-passes p (getD m (s * steps + c) 0) (getD inputs c false)
+
+  unfoldable pub inputs-stay : Bool
+  inputs-stay = all steps input-at
+
+  unfoldable pub own-stays : Bool
+  own-stays = any steps own-at
+
+  unfoldable pub passes : Bool
+  passes = inputs-stay && own-stays
+
+-- the laws of a loop over steps
+pub all-none : (p : ℕ → Bool) → all 0 p ≡ true
+unfolding all
+all-none p = refl
+
+pub all-more : (p : ℕ → Bool) (c : ℕ) → all c p ≡ true → p c ≡ true → all (c + 1) p ≡ true
+unfolding all
+all-more p c e f = rw (add-one, f, e)
+
+pub all-fails : (p : ℕ → Bool) (c n : ℕ) → c < n → p c ≡ false → all n p ≡ false
+all-fails p c n h e = ⊎-elim (λ t. absurd (subst T e (all-elim n p t c h))) (λ t. T-false (all n p) t) (T-dec (all n p))
+
+pub any-none : (p : ℕ → Bool) → any 0 p ≡ false
+unfolding any
+any-none p = refl
+
+pub any-more : (p : ℕ → Bool) (c : ℕ) → any c p ≡ false → p c ≡ false → any (c + 1) p ≡ false
+unfolding any
+any-more p c e f = rw (add-one, f, e)
+
+pub any-hits : (p : ℕ → Bool) (c n : ℕ) → c < n → p c ≡ true → any n p ≡ true
+any-hits p c n h e = T-true (any n p) (any-intro n p c h (subst T (sym e) tt))
+
+all-same : (n : ℕ) (p q : ℕ → Bool) → ((i : ℕ) → i < n → p i ≡ q i) → all n p ≡ all n q
+unfolding all
+all-same zero p q e = refl
+all-same (suc n) p q e = rw (e n (omega arith), all-same n p q (λ i h. e i (omega arith)))
+
+any-same : (n : ℕ) (p q : ℕ → Bool) → ((i : ℕ) → i < n → p i ≡ q i) → any n p ≡ any n q
+unfolding any
+any-same zero p q e = refl
+any-same (suc n) p q e = rw (e n (omega arith), any-same n p q (λ i h. e i (omega arith)))
+
+stays-same : (p q : ℕ → Bool) (o : Option ℕ) → ((t : ℕ) → o ≡ some t → p t ≡ q t) → stays p o ≡ stays q o
+unfolding stays
+stays-same p q none e = refl
+stays-same p q (some t) e = e t refl
+
+lands-same : (p q : ℕ → Bool) (o : Option ℕ) → ((t : ℕ) → o ≡ some t → p t ≡ q t) → lands p o ≡ lands q o
+unfolding lands
+lands-same p q none e = refl
+lands-same p q (some t) e = e t refl
+
+-- the slices' test is the system's
+module _ {A : Signature} {L : Finite-system A} {m d keep : List ℕ} {inputs X : List Bool} {n steps : ℕ} (E : Encoded A L m inputs n steps) (B : Bounded n steps m) (P : Packed n X d keep) (s : ℕ) (h : s < n) where
+  input-is : (c : ℕ) → c < steps → input-at m inputs steps (bit-at keep) s c ≡ input-stays L X s c
+  unfolding input-at input-passes input-stays
+  input-is c l = rw (E .input c l, E .moves .move s c h l) (ap (λ (b : Bool). getD inputs c false ⇒ b) (stays-same (bit-at keep) (at X) (decode (getD m (s * steps + c) 0)) (λ t e. packed-bit P t (decode-inside B s c t h l e))))
+
+  own-is : (c : ℕ) → c < steps → own-at m inputs steps (bit-at keep) s c ≡ own-lands L X s c
+  unfolding own-at own-passes own-lands
+  own-is c l = rw (E .input c l, E .moves .move s c h l) (ap (λ (b : Bool). not (getD inputs c false) && b) (lands-same (bit-at keep) (at X) (decode (getD m (s * steps + c) 0)) (λ t e. packed-bit P t (decode-inside B s c t h l e))))
+
+  pub passes-is : passes m inputs steps (bit-at keep) s ≡ safe-test L X s
+  unfolding passes inputs-stay own-stays safe-test
+  passes-is =
+      let a : all steps (input-at m inputs steps (bit-at keep) s) ≡ all (suc (A .channels)) (input-stays L X s) = all-same steps (input-at m inputs steps (bit-at keep) s) (input-stays L X s) input-is ∙ ap (λ (k : ℕ). all k (input-stays L X s)) (E .known) in
+      let b : any steps (own-at m inputs steps (bit-at keep) s) ≡ any (suc (A .channels)) (own-lands L X s) = any-same steps (own-at m inputs steps (bit-at keep) s) (own-lands L X s) own-is ∙ ap (λ (k : ℕ). any k (own-lands L X s)) (E .known) in
+      rw (a, b)

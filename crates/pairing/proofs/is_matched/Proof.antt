@@ -1,0 +1,54 @@
+-- `is_matched` is `matched`: lacking where the partner is 0, else by the directions.
+use borrow.Author.Needs.{needs}
+use mathlib.Core.Path.{sym, _∙_}
+use Rattle.pairing.specs.Laws.{matched-none, matched-some}
+use Rattle.pairing.proofs.is_matched.Statement.{statement}
+use Rattle.pairing.proofs.is_matched.Tie as tie
+
+sub-k : tie.Need-sub-k
+sub-k c = search needs
+
+mul-k : tie.Need-mul-k
+mul-k c = search needs
+
+element-copy-out-k : tie.Need-element-copy-out-k
+element-copy-out-k c = search needs
+
+partner-of-requires : tie.Need-partner-of-requires
+partner-of-requires c κs = search needs
+
+returns : tie.Need-returns
+returns c =
+    let a = c .before .before .before .before .before .before .args in
+    sym (matched-none (a .s .now) (a .t2) (a .u .now) (a .r) (a .c) _ (c .before .partner-of .ensures) (c .if1 .taken))
+
+is-input-step-requires : tie.Need-is-input-step-requires
+is-input-step-requires c κs = search needs
+
+is-input-step-requires-2 : tie.Need-is-input-step-requires-2
+is-input-step-requires-2 c κs = search needs
+
+do-agree-requires : tie.Need-do-agree-requires
+do-agree-requires c κs = search needs
+
+returns-2 : tie.Need-returns-2
+returns-2 c =
+    let a = c .before .before .before .before .before .before .before .before .before .args in
+    let d = c .before .before .before .before .partner-of .ensures in
+    c .do-agree .ensures
+    ∙ rw (c .before .before .is-input-step .ensures, c .before .is-input-step2 .ensures)
+    (sym (matched-some (a .s .now) (a .t2) (a .u .now) (a .r) (a .c) _ d (c .before .before .before .if1 .left)))
+
+pub is-matched-spec : {M : Type 1} → statement M
+is-matched-spec =
+    tie.close
+    (tie.spec
+    sub-k
+    mul-k
+    element-copy-out-k
+    partner-of-requires
+    returns
+    is-input-step-requires
+    is-input-step-requires-2
+    do-agree-requires
+    returns-2)

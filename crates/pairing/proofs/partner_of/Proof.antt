@@ -1,0 +1,73 @@
+-- `partner_of` returns the channel that has the name: the invariant says that the search from d on is the whole search.
+use borrow.Author.Needs.{needs}
+use native.Mathlib.Omega.{arith}
+use Prim.Native.Nat.{_+_, _-_, _≤_}
+use mathlib.Core.Path.{_≡_, sym, _∙_}
+use Rattle.pairing.specs.Channels.{partner}
+use Rattle.pairing.specs.Laws.{seek, seek-begins, seek-finds, seek-goes, seek-ends}
+use Rattle.pairing.proofs.partner_of.Statement.{statement}
+use Rattle.pairing.proofs.partner_of.Tie as tie
+
+abbrev Inv-loop : tie.InvT-loop
+Inv-loop s name u r d₀ d = (1 ≤ d) × (d ≤ r .«channel_count» + 1) × (seek s name u r d ≡ partner s name u r)
+
+abbrev μ-loop : tie.MeasureT-loop
+μ-loop s name u r d₀ d = r .«channel_count» + 1 - d
+
+loop-holds : tie.Need-loop-holds Inv-loop μ-loop
+loop-holds c =
+    let a = c .before .before .args in
+    (omega arith, omega arith, seek-begins (a .s .now) (a .name) (a .u .now) (a .t4))
+
+sub-k : tie.Need-sub-k Inv-loop μ-loop
+sub-k c = search needs
+
+mul-k : tie.Need-mul-k Inv-loop μ-loop
+mul-k c = search needs
+
+element-copy-out-k : tie.Need-element-copy-out-k Inv-loop μ-loop
+element-copy-out-k c = omega (arith, c .before .before .before .before .pre .channels)
+
+is-same-requires : tie.Need-is-same-requires Inv-loop μ-loop
+is-same-requires c κs = search needs
+
+returns : tie.Need-returns Inv-loop μ-loop
+returns c =
+    let a = c .before .before .before .before .before .before .before .before .args in
+    sym (seek-finds (a .s .now) (a .name) (a .u .now) (a .t4) _ (omega arith) (sym (c .before .is-same .ensures) ∙ c .if1 .taken))
+    ∙ c .before .before .before .before .before .loop .inv .2
+
+add-d : tie.Need-add-d Inv-loop μ-loop
+add-d c = omega (arith, c .before .before .before .before .before .before .before .before .pre .channels)
+
+loop-less : tie.Need-loop-less Inv-loop μ-loop
+loop-less c = search needs
+
+loop-again : tie.Need-loop-again Inv-loop μ-loop
+loop-again c =
+    let a = c .before .before .before .before .before .before .before .before .args in
+    let l = c .before .before .before .before .before .loop in
+    let no = sym (c .before .is-same .ensures) ∙ c .if1 .left in
+    (omega arith, omega arith, sym (seek-goes (a .s .now) (a .name) (a .u .now) (a .t4) (l .d) (omega arith) no) ∙ l .inv .2)
+
+returns-2 : tie.Need-returns-2 Inv-loop μ-loop
+returns-2 c =
+    let a = c .before .before .before .before .args in
+    sym (seek-ends (a .s .now) (a .name) (a .u .now) (a .t4) _ (omega arith)) ∙ c .before .loop .inv .2
+
+pub partner-of-spec : {M : Type 1} → statement M
+partner-of-spec =
+    tie.close
+    (tie.spec
+    Inv-loop
+    μ-loop
+    loop-holds
+    sub-k
+    mul-k
+    element-copy-out-k
+    is-same-requires
+    returns
+    add-d
+    loop-less
+    loop-again
+    returns-2)

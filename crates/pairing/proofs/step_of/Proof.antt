@@ -1,0 +1,46 @@
+-- `step_of` is `right-step`: the tick, a number past the channels, a channel.
+use borrow.Author.Needs.{needs}
+use native.Mathlib.Omega.{arith}
+use mathlib.Core.Path.{sym, _∙_}
+use Rattle.pairing.specs.Laws.{step-none, step-over, step-in}
+use Rattle.pairing.proofs.step_of.Statement.{statement}
+use Rattle.pairing.proofs.step_of.Tie as tie
+
+returns : tie.Need-returns
+returns c =
+    let a = c .before .before .before .args in
+    sym (step-none (a .s .now) (a .t2) (a .u .now) (a .r) (a .c) (c .if1 .taken))
+
+returns-2 : tie.Need-returns-2
+returns-2 c =
+    let a = c .before .before .before .before .args in
+    sym (step-over (a .s .now) (a .t2) (a .u .now) (a .r) (a .c) (c .before .if1 .left) (c .if2 .taken))
+
+sub-channel : tie.Need-sub-channel
+sub-channel c = search needs
+
+mul-channel : tie.Need-mul-channel
+mul-channel c = search needs
+
+element-copy-out-channel : tie.Need-element-copy-out-channel
+element-copy-out-channel c = omega (arith, c .before .before .before .before .pre .0 .channels)
+
+partner-of-requires : tie.Need-partner-of-requires
+partner-of-requires c κs = search needs
+
+returns-3 : tie.Need-returns-3
+returns-3 c =
+    let a = c .before .before .before .before .before .before .before .args in
+    c .partner-of .ensures ∙ sym (step-in (a .s .now) (a .t2) (a .u .now) (a .r) (a .c) (c .before .before .before .before .if1 .left) (omega arith))
+
+pub step-of-spec : {M : Type 1} → statement M
+step-of-spec =
+    tie.close
+    (tie.spec
+    returns
+    returns-2
+    sub-channel
+    mul-channel
+    element-copy-out-channel
+    partner-of-requires
+    returns-3)

@@ -1,0 +1,63 @@
+-- `steps_of` fills the map: the first c entries are those of `right-step`.
+use borrow.Author.Needs.{needs}
+use native.Mathlib.Omega.{arith}
+use Prim.Native.Nat.{_-_, _≤_}
+use mathlib.Core.Path.{_≡_, sym, _∙_}
+use lib.ListN.{replicate}
+use Rattle.clocks_bits.specs.Bits.{written, written-none, written-more}
+use Rattle.pairing.specs.Channels.{right-step, most-steps}
+use Rattle.pairing.specs.Laws.{written-whole}
+use Rattle.pairing.proofs.steps_of.Statement.{statement}
+use Rattle.pairing.proofs.steps_of.Tie as tie
+
+abbrev Inv-loop : tie.InvT-loop
+Inv-loop s l u r map₀ c₀ map c = (c ≤ most-steps) × (map ≡ written (right-step s l u r) c (replicate most-steps 0))
+
+abbrev μ-loop : tie.MeasureT-loop
+μ-loop s l u r map₀ c₀ map c = most-steps - c
+
+loop-holds : tie.Need-loop-holds Inv-loop μ-loop
+loop-holds c = (omega arith, sym (written-none _ _))
+
+step-of-requires : tie.Need-step-of-requires Inv-loop μ-loop
+step-of-requires c κs = c .before .before .before .before .pre
+
+mul-map : tie.Need-mul-map Inv-loop μ-loop
+mul-map c = search needs
+
+array-write-map : tie.Need-array-write-map Inv-loop μ-loop
+array-write-map c = search needs
+
+add-c : tie.Need-add-c Inv-loop μ-loop
+add-c c = search needs
+
+loop-less : tie.Need-loop-less Inv-loop μ-loop
+loop-less c = search needs
+
+loop-again : tie.Need-loop-again Inv-loop μ-loop
+loop-again c =
+    let a = c .before .before .before .before .before .args in
+    let f = right-step (a .s .now) (a .l) (a .u .now) (a .r) in
+    let more = written-more f (c .before .before .loop .c) (replicate most-steps 0) _ (omega arith) (c .step-of .ensures) in
+    (omega arith, rw (c .before .before .loop .inv .1) more)
+
+returns : tie.Need-returns Inv-loop μ-loop
+returns c =
+    let a = c .before .before .before .before .args in
+    let f = right-step (a .s .now) (a .l) (a .u .now) (a .r) in
+    c .before .loop .inv .1 ∙ written-whole f (c .before .loop .c) (omega arith)
+
+pub steps-of-spec : {M : Type 1} → statement M
+steps-of-spec =
+    tie.close
+    (tie.spec
+    Inv-loop
+    μ-loop
+    loop-holds
+    step-of-requires
+    mul-map
+    array-write-map
+    add-c
+    loop-less
+    loop-again
+    returns)

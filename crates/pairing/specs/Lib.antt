@@ -1,0 +1,7 @@
+pub mod Channels
+pub mod Table
+pub mod Lowest
+pub mod Laws
+pub mod Spelled
+pub mod Equal
+pub mod Map

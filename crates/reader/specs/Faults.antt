@@ -1,0 +1,15 @@
+-- Document 01, "What a refused call returns": the code, the file mark and the values for each reason to refuse a text.
+use Rattle.refusals.specs.declared.Refusal.{Refusal}
+use Rattle.refusals.specs.Refusals.{text-too-long, misfit, name-too-long, declared-before, unknown-name, constant-too-large, too-many-items, other-mark}
+use Rattle.reader_parts.specs.declared.Fault.{Fault}
+use Rattle.reader_parts.specs.declared.Fault.the-variants.{TooLong, Misfit, NameTooLong, Declared, Unknown, TooLarge, TooMany, OtherMark}
+
+unfoldable pub refusal-of : Fault → Refusal
+refusal-of TooLong = text-too-long
+refusal-of (Misfit place) = misfit place
+refusal-of (NameTooLong place) = name-too-long place
+refusal-of (Declared place) = declared-before place
+refusal-of (Unknown place) = unknown-name place
+refusal-of (TooLarge place) = constant-too-large place
+refusal-of (TooMany place) = too-many-items place
+refusal-of (OtherMark place) = other-mark place

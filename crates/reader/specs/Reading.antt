@@ -1,0 +1,93 @@
+-- The contract text: "A subset of UPPAAL's published XTA text, in this order". A definition a line of document 01.
+use mathlib.Core.Bool.{Bool, true, false, cond}
+use mathlib.Core.List.{List}
+use Prim.Native.Nat.{ℕ, _+_}
+use lib.Dec.{ltb}
+use lib.ListN.{length, replicate}
+use Rattle.reader_tokens.specs.Kinds as kinds
+use Rattle.reader_record.specs.Limits.{location-limit, largest-text}
+use Rattle.reader_record.specs.Record.{no-name}
+use Rattle.reader_record.specs.declared.Text.{Text}
+use Rattle.reader_parts.specs.declared.Fault.{Fault}
+use Rattle.reader_parts.specs.declared.Fault.the-variants.{TooLong}
+use Rattle.reader_parts.specs.declared.Status.{Status}
+use Rattle.reader_parts.specs.declared.Status.the-variants as status
+use Rattle.reader_parts.specs.Status.{ahead}
+use Rattle.reader_parts.specs.Names.{declare, use-name}
+use Rattle.reader_parts.specs.Slots.{process-slot, process-limit, first-location, name-slots}
+use Rattle.reader_lists.specs.declared.State.{State}
+use Rattle.reader_lists.specs.State.{no-text, next, with-init}
+use Rattle.reader_lists.specs.Lists.{stopped, channels, clocks, locations, edges}
+use Rattle.reader.specs.Faults.{refusal-of}
+use Rattle.reader.specs.declared.Answer.{Answer}
+use Rattle.reader.specs.declared.Answer.the-variants.{Accepted, Refused}
+use Rattle.reader.specs.declared.Parsed.{Parsed}
+
+-- nothing is read and nothing is declared
+unfoldable pub start : State
+start = record { status = status.At 0; names = replicate name-slots no-name; text = no-text }
+
+-- "optional `broadcast chan` names `;`"
+unfoldable pub channel-part : List ℕ → State → State
+channel-part s r =
+    let given = channels s (next s (next s r kinds.broadcast) kinds.chan) in
+    cond (ahead s (r .status) kinds.broadcast) given r
+
+-- "`process` name `( ) {`"
+unfoldable pub process-part : List ℕ → State → State
+process-part s r =
+    let a = next s r kinds.process in
+    let d = declare s (a .status) (a .names) process-slot 0 process-limit in
+    let b : State = record { status = d .status; names = d .names; text = a .text } in
+    next s (next s (next s b kinds.left-paren) kinds.right-paren) kinds.opens
+
+-- "optional `clock` names `;`"
+unfoldable pub clock-part : List ℕ → State → State
+clock-part s r =
+    let given = clocks s (next s r kinds.clock) in
+    cond (ahead s (r .status) kinds.clock) given r
+
+-- "`state` locations `;`"
+unfoldable pub location-part : List ℕ → State → State
+location-part s r = locations s (next s r kinds.state)
+
+-- "`init` name `;`": the name of a location
+unfoldable pub init-part : List ℕ → State → State
+init-part s r =
+    let a = next s r kinds.init in
+    let u = use-name s (a .status) (a .names) first-location location-limit false in
+    let b : State = record { status = u .status; names = a .names; text = with-init (a .text) (u .number) } in
+    next s b kinds.semicolon
+
+-- "optional `trans` edges `;`"
+unfoldable pub edge-part : List ℕ → State → State
+edge-part s r =
+    let given = edges s (next s r kinds.trans) in
+    cond (ahead s (r .status) kinds.trans) given r
+
+-- "then `} system` name `;`": the process's name; after it the text ends
+unfoldable pub end-part : List ℕ → State → State
+end-part s r =
+    let a = next s (next s r kinds.closes) kinds.system in
+    let u = use-name s (a .status) (a .names) process-slot process-limit false in
+    next s (next s (stopped a (u .status)) kinds.semicolon) kinds.end
+
+-- the parts in their order
+unfoldable pub read-whole : List ℕ → State
+read-whole s =
+    end-part s (edge-part s (init-part s (location-part s (clock-part s (process-part s (channel-part s start))))))
+
+-- a refused text has no record: the one beside the refusal is fixed
+unfoldable pub refused : Fault → Parsed
+refused f = record { answer = Refused (refusal-of f); text = no-text }
+
+unfoldable pub answer : Status → Text → Parsed
+answer (status.At p) t = record { answer = Accepted; text = t }
+answer (status.Refused f) t = refused f
+
+-- "Code 1 comes before all reading"
+unfoldable pub read-text : List ℕ → Parsed
+read-text s =
+    let r = read-whole s in
+    let read = answer (r .status) (r .text) in
+    cond (ltb largest-text (length s)) (refused TooLong) read

@@ -1,0 +1,87 @@
+-- `constant` is `constant`: a capped number above the largest constant is a number above it.
+use borrow.Author.Needs.{needs}
+use borrow.Author.Tests.{eq-eqb, ne-eqb, lt-ltb, le-ltb}
+use mathlib.Core.Path.{sym, _∙_}
+use Rattle.reader_record.specs.Limits.{largest-constant}
+use Rattle.reader_constraints.specs.Constraints.{constant-of, constant}
+use Rattle.reader_constraints.proofs.Laws.{uncapped, above}
+use Rattle.reader_constraints.proofs.constant.Statement.{statement}
+use Rattle.reader_constraints.proofs.constant.Tie as tie
+
+enum-known-st : tie.Need-enum-known-st
+enum-known-st c = search needs
+
+no-amount-requires : tie.Need-no-amount-requires
+no-amount-requires c κs = search needs
+
+enum-known-st-2 : tie.Need-enum-known-st-2
+enum-known-st-2 c = search needs
+
+token-at-requires : tie.Need-token-at-requires
+token-at-requires c κs = search needs
+
+no-amount-requires-2 : tie.Need-no-amount-requires-2
+no-amount-requires-2 c κs = search needs
+
+returns : tie.Need-returns
+unfolding constant constant-of
+returns c = rw (
+  c .before .before .before .before .before .st2 .given .1,
+  sym
+      (c .before .before .before .token-at .ensures),
+  ne-eqb _ _ (c .before .if1 .taken),
+  c .no-amount2 .ensures,
+)
+
+number-at-requires : tie.Need-number-at-requires
+number-at-requires c κs = search needs
+
+no-amount-requires-3 : tie.Need-no-amount-requires-3
+no-amount-requires-3 c κs = search needs
+
+returns-2 : tie.Need-returns-2
+unfolding constant constant-of
+returns-2 c = rw (
+  c .before .before .before .before .before .before .before .st2 .given .1,
+  sym
+      (c .before .before .before .before .before .token-at .ensures),
+  eq-eqb _ _
+      (c .before .before .before .if1 .left),
+  lt-ltb largest-constant _ (above _ (rw
+      (c .before .before .number-at .ensures) at
+      (c .before .if2 .taken))),
+  c .no-amount3 .ensures,
+)
+
+returns-3 : tie.Need-returns-3
+unfolding constant constant-of
+returns-3 c = rw (c .before .before .st .given .1, c .no-amount .ensures)
+
+returns-4 : tie.Need-returns-4
+unfolding constant constant-of
+returns-4 c =
+    let v = c .before .number-at .ensures ∙ uncapped _ (rw (c .before .number-at .ensures) at (c .if2 .left)) in
+    rw (
+      c .before .before .before .before .before .before .st2 .given .1,
+      sym
+          (c .before .before .before .before .token-at .ensures),
+      eq-eqb _ _ (c .before .before .if1 .left),
+      sym v,
+      le-ltb largest-constant _ (c .if2 .left),
+    )
+
+pub constant-spec : {M : Type 1} → statement M
+constant-spec =
+    tie.close
+    (tie.spec
+    enum-known-st
+    no-amount-requires
+    enum-known-st-2
+    token-at-requires
+    no-amount-requires-2
+    returns
+    number-at-requires
+    no-amount-requires-3
+    returns-2
+    returns-3
+    returns-4)

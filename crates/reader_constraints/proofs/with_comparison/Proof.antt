@@ -1,0 +1,21 @@
+-- `with_comparison` is `with-comparison`.
+use borrow.Author.Needs.{needs}
+use Rattle.reader_constraints.specs.Constraints.{with-comparison}
+use Rattle.reader_constraints.proofs.with_comparison.Statement.{statement}
+use Rattle.reader_constraints.proofs.with_comparison.Tie as tie
+
+mul-x : tie.Need-mul-x
+mul-x c = search needs
+
+element-set-from-x : tie.Need-element-set-from-x
+element-set-from-x c = search needs
+
+add-d : tie.Need-add-d
+add-d c = search needs
+
+returns : tie.Need-returns
+unfolding with-comparison
+returns c = search needs
+
+pub with-comparison-spec : {M : Type 1} → statement M
+with-comparison-spec = tie.close (tie.spec mul-x element-set-from-x add-d returns)

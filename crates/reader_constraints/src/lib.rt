@@ -1,0 +1,246 @@
+// Guards and invariants: comparisons joined by `&&`.
+ghost use mathlib.Core.Path.{_≡_};
+ghost use mathlib.Core.Bool.{Bool, true, false};
+ghost use Prim.Native.Nat.{ℕ, _+_, _-_, _≤_, _<_};
+ghost use Rattle.reader_record.specs.Limits.{comparison-limit};
+ghost use Rattle.reader_constraints.specs.Constraints.{no-amount, constant, no-sign, sign-next, comparison, no-constraint, with-comparison, constraint, guard, invariant};
+use reader_parts::FIRST_CLOCK;
+use reader_parts::Fault;
+use reader_parts::NAME_SLOTS;
+use reader_parts::Status;
+use reader_record::CLOCK_LIMIT;
+use reader_record::COMPARISON_LIMIT;
+use reader_record::Comparison;
+use reader_record::Constraint;
+use reader_record::LARGEST_CONSTANT;
+use reader_record::Name;
+use reader_record::Sign;
+
+pub struct Amount {
+    pub status: Status,
+    pub value: usize,
+}
+
+fn no_amount(f: Fault) -> Amount
+    ensures { λ r. ⌜ r ≡ no-amount f ⌝ }
+{
+    let st = Status::Refused(f);
+    Amount {
+        status: st,
+        value: 0,
+    }
+}
+
+// The next token, which has to be a numeral of at most the largest constant.
+pub fn constant(s: &[u8], st: Status) -> Amount
+    ensures { λ r. ⌜ r ≡ constant (now (s .entry)) st ⌝ }
+{
+    match st {
+        Status::Refused(f) => no_amount(f),
+        Status::At(p) => {
+            let t = reader_tokens::token_at(s, p);
+            let a = t.place;
+            if t.kind != reader_tokens::NUMERAL {
+                let f = Fault::Misfit(a);
+                return no_amount(f);
+            }
+            let v = reader_tokens::number_at(s, a);
+            if LARGEST_CONSTANT < v {
+                let f = Fault::TooLarge(a);
+                return no_amount(f);
+            }
+            let yes = Status::At(t.end);
+            Amount {
+                status: yes,
+                value: v,
+            }
+        }
+    }
+}
+
+pub struct SignRead {
+    pub status: Status,
+    pub sign: Sign,
+}
+
+fn no_sign(f: Fault) -> SignRead
+    ensures { λ r. ⌜ r ≡ no-sign f ⌝ }
+{
+    let st = Status::Refused(f);
+    let sign = Sign::AtMost;
+    SignRead {
+        status: st,
+        sign: sign,
+    }
+}
+
+// The next token, which has to be one of `<=` `>=` `==`, in an invariant `<=`.
+fn sign_next(s: &[u8], st: Status, invariant: bool) -> SignRead
+    ensures { λ r. ⌜ r ≡ sign-next (now (s .entry)) st invariant ⌝ }
+{
+    match st {
+        Status::Refused(f) => no_sign(f),
+        Status::At(p) => {
+            let t = reader_tokens::token_at(s, p);
+            let k = t.kind;
+            let yes = Status::At(t.end);
+            let f = Fault::Misfit(t.place);
+            if k == reader_tokens::AT_MOST {
+                let sign = Sign::AtMost;
+                return SignRead {
+                    status: yes,
+                    sign: sign,
+                };
+            }
+            if invariant {
+                return no_sign(f);
+            }
+            if k == reader_tokens::AT_LEAST {
+                let sign = Sign::AtLeast;
+                return SignRead {
+                    status: yes,
+                    sign: sign,
+                };
+            }
+            if k == reader_tokens::EQUAL {
+                let sign = Sign::Equal;
+                return SignRead {
+                    status: yes,
+                    sign: sign,
+                };
+            }
+            no_sign(f)
+        }
+    }
+}
+
+pub struct ComparisonRead {
+    pub status: Status,
+    pub comparison: Comparison,
+}
+
+// A clock, a sign and a numeral. `over`: it is one comparison too many.
+fn comparison(
+    s: &[u8],
+    st: Status,
+    names: [Name; NAME_SLOTS],
+    invariant: bool,
+    over: bool,
+) -> ComparisonRead
+    ensures { λ r. ⌜ r ≡ comparison (now (s .entry)) st names invariant over ⌝ }
+{
+    let clock = reader_parts::use_name(s, st, names, FIRST_CLOCK, CLOCK_LIMIT, over);
+    let after_clock = clock.status;
+    let read = sign_next(s, after_clock, invariant);
+    let after_sign = read.status;
+    let bound = constant(s, after_sign);
+    let sign = read.sign;
+    let made = Comparison {
+        clock: clock.number,
+        sign: sign,
+        bound: bound.value,
+    };
+    let end = bound.status;
+    ComparisonRead {
+        status: end,
+        comparison: made,
+    }
+}
+
+pub fn no_constraint() -> Constraint
+    ensures { λ r. ⌜ r ≡ no-constraint ⌝ }
+{
+    let sign = Sign::AtMost;
+    let none = Comparison {
+        clock: 0,
+        sign: sign,
+        bound: 0,
+    };
+    let all = [none; COMPARISON_LIMIT];
+    Constraint {
+        comparisons: all,
+        count: 0,
+    }
+}
+
+fn with_comparison(c: Constraint, x: Comparison) -> Constraint
+    requires { ⌜ c .count < comparison-limit ⌝ }
+    ensures { λ r. ⌜ r ≡ with-comparison c x ⌝ }
+{
+    let mut d = c;
+    let k = d.count;
+    d.comparisons[k] = x;
+    d.count = k + 1;
+    d
+}
+
+pub struct ConstraintRead {
+    pub status: Status,
+    pub constraint: Constraint,
+}
+
+// Comparisons joined by `&&`, then the closing token.
+fn constraint(
+    s: &[u8],
+    st: Status,
+    names: [Name; NAME_SLOTS],
+    invariant: bool,
+    closing: usize,
+) -> ConstraintRead
+    ensures { λ r. ⌜ r ≡ constraint (now (s .entry)) st names invariant closing ⌝ }
+{
+    let mut c = no_constraint();
+    let mut q = st;
+    loop {
+        if COMPARISON_LIMIT <= c.count {
+            let x = comparison(s, q, names, invariant, true);
+            let no = x.status;
+            return ConstraintRead {
+                status: no,
+                constraint: c,
+            };
+        }
+        let x = comparison(s, q, names, invariant, false);
+        let came = x.status;
+        let made = x.comparison;
+        c = with_comparison(c, made);
+        if !reader_parts::ahead(s, came, reader_tokens::BOTH) {
+            let end = reader_parts::take(s, came, closing);
+            return ConstraintRead {
+                status: end,
+                constraint: c,
+            };
+        }
+        q = reader_parts::take(s, came, reader_tokens::BOTH);
+    }
+}
+
+// An optional `guard` with its comparisons and `;`.
+pub fn guard(s: &[u8], st: Status, names: [Name; NAME_SLOTS]) -> ConstraintRead
+    ensures { λ r. ⌜ r ≡ guard (now (s .entry)) st names ⌝ }
+{
+    if reader_parts::ahead(s, st, reader_tokens::GUARD) {
+        let q = reader_parts::take(s, st, reader_tokens::GUARD);
+        return constraint(s, q, names, false, reader_tokens::SEMICOLON);
+    }
+    let c = no_constraint();
+    ConstraintRead {
+        status: st,
+        constraint: c,
+    }
+}
+
+// An optional `{` with its comparisons and `}`.
+pub fn invariant(s: &[u8], st: Status, names: [Name; NAME_SLOTS]) -> ConstraintRead
+    ensures { λ r. ⌜ r ≡ invariant (now (s .entry)) st names ⌝ }
+{
+    if reader_parts::ahead(s, st, reader_tokens::OPEN) {
+        let q = reader_parts::take(s, st, reader_tokens::OPEN);
+        return constraint(s, q, names, true, reader_tokens::CLOSE);
+    }
+    let c = no_constraint();
+    ConstraintRead {
+        status: st,
+        constraint: c,
+    }
+}

@@ -1,0 +1,44 @@
+-- `assigns` is `assigns`, by the contracts of its parts.
+use borrow.Author.Needs.{needs}
+use mathlib.Core.Path.{sym}
+use Rattle.reader_parts.specs.Status.{take, ahead}
+use Rattle.reader_edges.specs.Assigns.{assigns}
+use Rattle.reader_edges.proofs.assigns.Statement.{statement}
+use Rattle.reader_edges.proofs.assigns.Tie as tie
+
+ahead-requires : tie.Need-ahead-requires
+ahead-requires c κs = search needs
+
+take-requires : tie.Need-take-requires
+take-requires c κs = search needs
+
+assign-items-requires : tie.Need-assign-items-requires
+assign-items-requires c κs = search needs
+
+returns : tie.Need-returns
+unfolding assigns
+returns c = rw (
+  sym (c .before .before .before .ahead .ensures),
+  c .before .before .if1 .taken,
+  sym
+      (c .before .take .ensures),
+  c .assign-items .ensures,
+)
+
+no-resets-requires : tie.Need-no-resets-requires
+no-resets-requires c κs = search needs
+
+returns-2 : tie.Need-returns-2
+unfolding assigns
+returns-2 c = rw (sym (c .before .before .ahead .ensures), c .before .if1 .left, c .no-resets .ensures)
+
+pub assigns-spec : {M : Type 1} → statement M
+assigns-spec =
+    tie.close
+    (tie.spec
+    ahead-requires
+    take-requires
+    assign-items-requires
+    returns
+    no-resets-requires
+    returns-2)

@@ -1,0 +1,65 @@
+-- `edge_next` is `edge-next`, by the contracts of its parts.
+use borrow.Author.Needs.{needs}
+use mathlib.Core.Path.{sym}
+use Rattle.reader_parts.specs.Status.{take}
+use Rattle.reader_constraints.specs.Constraints.{guard}
+use Rattle.reader_edges.specs.Assigns.{assigns}
+use Rattle.reader_edges.specs.Edges.{edge-next}
+use Rattle.reader_edges.proofs.edge_next.Statement.{statement}
+use Rattle.reader_edges.proofs.edge_next.Tie as tie
+
+use-name-requires : tie.Need-use-name-requires
+use-name-requires c κs = search needs
+
+take-requires : tie.Need-take-requires
+take-requires c κs = search needs
+
+use-name-requires-2 : tie.Need-use-name-requires-2
+use-name-requires-2 c κs = search needs
+
+take-requires-2 : tie.Need-take-requires-2
+take-requires-2 c κs = search needs
+
+guard-requires : tie.Need-guard-requires
+guard-requires c κs = search needs
+
+label-next-requires : tie.Need-label-next-requires
+label-next-requires c κs = search needs
+
+assigns-requires : tie.Need-assigns-requires
+assigns-requires c κs = search needs
+
+take-requires-3 : tie.Need-take-requires-3
+take-requires-3 c κs = search needs
+
+returns : tie.Need-returns
+unfolding edge-next
+returns c = rw (
+  sym (c .before .before .before .before .before .before .before .before .before .use-name .ensures),
+  sym (c .before .before .before .before .before .before .before .before .take .ensures),
+  sym
+      (c .before .before .before .before .before .before .before .use-name2 .ensures),
+  sym
+      (c .before .before .before .before .before .before .take2 .ensures),
+  sym
+      (c .before .before .before .before .before .guard .ensures),
+  sym
+      (c .before .before .before .before .label-next .ensures),
+  sym (c .before .before .before .assigns .ensures),
+  sym
+      (c .before .before .take3 .ensures),
+)
+
+pub edge-next-spec : {M : Type 1} → statement M
+edge-next-spec =
+    tie.close
+    (tie.spec
+    use-name-requires
+    take-requires
+    use-name-requires-2
+    take-requires-2
+    guard-requires
+    label-next-requires
+    assigns-requires
+    take-requires-3
+    returns)

@@ -1,0 +1,63 @@
+-- The assignments of an edge: `assign`, clock `= 0` items joined by commas, `;`.
+use mathlib.Core.Bool.{Bool, true, false, cond, _&&_}
+use mathlib.Core.List.{List}
+use Prim.Native.Nat.{ℕ, zero, suc}
+use lib.Dec.{eqb}
+use lib.ListN.{length, drop, set, replicate}
+use Rattle.reader_tokens.specs.Kinds as kinds
+use Rattle.reader_tokens.specs.Scan.{value}
+use Rattle.reader_tokens.specs.Tokens.{token-at}
+use Rattle.reader_tokens.specs.declared.Token.{Token}
+use Rattle.reader_record.specs.Limits.{clock-limit}
+use Rattle.reader_record.specs.declared.Name.{Name}
+use Rattle.reader_parts.specs.declared.Fault.the-variants.{Misfit}
+use Rattle.reader_parts.specs.declared.Status.{Status}
+use Rattle.reader_parts.specs.declared.Status.the-variants.{At, Refused}
+use Rattle.reader_parts.specs.Status.{take, ahead}
+use Rattle.reader_parts.specs.Names.{use-name}
+use Rattle.reader_parts.specs.Slots.{first-clock}
+use Rattle.reader_edges.specs.declared.AssignRead.{AssignRead}
+use Rattle.reader_edges.specs.declared.AssignsRead.{AssignsRead}
+
+-- "in `assign` any value but 0 gives 2"
+unfoldable pub zero-of : List ℕ → Token → Status
+zero-of s t =
+    cond (eqb (t .kind) kinds.numeral && eqb (value 0 (drop (t .place) s)) 0)
+    (At (t .end))
+    (Refused (Misfit (t .place)))
+
+-- the next token as the value of an assignment
+unfoldable pub zero-next : List ℕ → Status → Status
+zero-next s (Refused f) = Refused f
+zero-next s (At p) = zero-of s (token-at s p)
+
+-- "clock `= 0`"
+unfoldable pub assign-next : List ℕ → Status → List Name → AssignRead
+assign-next s st names =
+    let clock = use-name s st names first-clock clock-limit false in
+    record { status = zero-next s (take s (clock .status) kinds.becomes); clock = clock .number }
+
+-- no clock is reset
+unfoldable pub no-resets : List Bool
+no-resets = replicate clock-limit false
+
+-- items joined by commas, then `;`. The counter only makes the recursion plain: it says how many items are read at most, and
+-- `counter-free` of Progress proves that any counter above the bytes left gives the same, so that none is ever cut off
+unfoldable pub assigns-from : ℕ → List ℕ → List Name → Status → List Bool → AssignsRead
+assigns-from zero s names st resets = record { status = st; resets = resets }
+assigns-from (suc room) s names st resets =
+    let x = assign-next s st names in
+    let all = set resets (x .clock) true in
+    let more = assigns-from room s names (take s (x .status) kinds.comma) all in
+    cond (ahead s (x .status) kinds.comma) more (record { status = take s (x .status) kinds.semicolon; resets = all })
+
+-- "items joined by commas `;`", with the clocks that are reset already; `items-more` and `items-last` of Progress are its
+-- equations, without the counter
+unfoldable pub items : List ℕ → List Name → Status → List Bool → AssignsRead
+items s names st resets = assigns-from (suc (length s)) s names st resets
+
+-- "optional `assign` clock `= 0` items joined by commas `;`"
+unfoldable pub assigns : List ℕ → Status → List Name → AssignsRead
+assigns s st names =
+    let given = items s names (take s st kinds.assign) no-resets in
+    cond (ahead s st kinds.assign) given (record { status = st; resets = no-resets })

@@ -1,0 +1,39 @@
+-- "An edge is `A -> B {` optional `guard` comparisons `;` then `sync` channel `?` or `!` `;` then optional `assign` clock `= 0`
+-- items joined by commas `;` and `}`."
+use mathlib.Core.Bool.{Bool, true, false, cond}
+use mathlib.Core.List.{List}
+use Prim.Native.Nat.{ℕ}
+use Rattle.reader_tokens.specs.Kinds as kinds
+use Rattle.reader_record.specs.Limits.{location-limit}
+use Rattle.reader_record.specs.declared.Name.{Name}
+use Rattle.reader_record.specs.declared.Channel.{Channel}
+use Rattle.reader_record.specs.declared.Edge.{Edge}
+use Rattle.reader_parts.specs.declared.Status.{Status}
+use Rattle.reader_parts.specs.Status.{take}
+use Rattle.reader_parts.specs.Names.{use-name}
+use Rattle.reader_parts.specs.Slots.{first-location}
+use Rattle.reader_constraints.specs.Constraints.{guard}
+use Rattle.reader_edges.specs.declared.EdgeRead.{EdgeRead}
+use Rattle.reader_edges.specs.Labels.{label-next}
+use Rattle.reader_edges.specs.Assigns.{assigns}
+
+-- `over`: it is one edge too many
+unfoldable pub edge-next : List ℕ → Status → List Name → List Channel → Bool → EdgeRead
+edge-next s st names channels over =
+    let source = use-name s st names first-location location-limit over in
+    let target = use-name s (take s (source .status) kinds.arrow) names first-location location-limit false in
+    let given = guard s (take s (target .status) kinds.opens) names in
+    let labelled = label-next s (given .status) names channels in
+    let assigned = assigns s (labelled .status) names in
+    record {
+      status = take s (assigned .status) kinds.closes;
+      channel = labelled .channel;
+      input = labelled .input;
+      edge = record {
+        source = source .number;
+        target = target .number;
+        guard = given .constraint;
+        label = labelled .label;
+        resets = assigned .resets;
+      };
+    }

@@ -1,0 +1,5 @@
+pub mod Labels
+pub mod Assigns
+pub mod Edges
+pub mod Facts
+pub mod Progress

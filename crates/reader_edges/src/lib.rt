@@ -1,0 +1,284 @@
+// An edge: `A -> B {` optional guard, label, optional assignments `}`.
+ghost use mathlib.Core.Path.{_≡_};
+ghost use mathlib.Core.Bool.{Bool, true, false};
+ghost use Prim.Native.Nat.{ℕ, _+_, _-_, _≤_, _<_};
+ghost use lib.ListN.{length, getD, set};
+ghost use Rattle.reader_record.specs.Limits.{channel-limit};
+ghost use Rattle.reader_record.specs.Record.{no-channel};
+ghost use Rattle.reader_edges.specs.Labels.{no-mark, mark-next, fits, judged, label-of, label-next};
+ghost use Rattle.reader_edges.specs.Assigns.{zero-next, assign-next, no-resets, items, assigns};
+ghost use Rattle.reader_edges.specs.Edges.{edge-next};
+use reader_parts::FIRST_CHANNEL;
+use reader_parts::FIRST_CLOCK;
+use reader_parts::FIRST_LOCATION;
+use reader_parts::Fault;
+use reader_parts::NAME_SLOTS;
+use reader_parts::Status;
+use reader_record::CHANNEL_LIMIT;
+use reader_record::CLOCK_LIMIT;
+use reader_record::Channel;
+use reader_record::Direction;
+use reader_record::Edge;
+use reader_record::LOCATION_LIMIT;
+use reader_record::Label;
+use reader_record::Name;
+
+pub struct MarkRead {
+    pub status: Status,
+    pub input: bool,
+}
+
+fn no_mark(f: Fault) -> MarkRead
+    ensures { λ r. ⌜ r ≡ no-mark f ⌝ }
+{
+    let st = Status::Refused(f);
+    MarkRead {
+        status: st,
+        input: false,
+    }
+}
+
+// The next token, which has to be `?` or `!`.
+fn mark_next(s: &[u8], st: Status) -> MarkRead
+    ensures { λ r. ⌜ r ≡ mark-next (now (s .entry)) st ⌝ }
+{
+    match st {
+        Status::Refused(f) => no_mark(f),
+        Status::At(p) => {
+            let t = reader_tokens::token_at(s, p);
+            let k = t.kind;
+            let yes = Status::At(t.end);
+            if k == reader_tokens::INPUT {
+                return MarkRead {
+                    status: yes,
+                    input: true,
+                };
+            }
+            if k == reader_tokens::OUTPUT {
+                return MarkRead {
+                    status: yes,
+                    input: false,
+                };
+            }
+            let f = Fault::Misfit(t.place);
+            no_mark(f)
+        }
+    }
+}
+
+fn direction_at(channels: [Channel; CHANNEL_LIMIT], k: usize) -> Direction
+    requires { ⌜ k < channel-limit ⌝ }
+    ensures { λ r. ⌜ r ≡ getD channels k no-channel .direction ⌝ }
+{
+    let c = channels[k];
+    c.direction
+}
+
+// Whether a channel that the edges before use in the direction d may have the mark.
+fn fits(d: Direction, input: bool) -> bool
+    ensures { λ r. ⌜ r ≡ fits d input ⌝ }
+{
+    match d {
+        Direction::Unused => true,
+        Direction::Input => input,
+        Direction::Output => !input,
+    }
+}
+
+fn judged(st: Status, right: bool, place: usize) -> Status
+    ensures { λ r. ⌜ r ≡ judged st right place ⌝ }
+{
+    match st {
+        Status::Refused(f) => Status::Refused(f),
+        Status::At(p) => {
+            if right {
+                return Status::At(p);
+            }
+            let f = Fault::OtherMark(place);
+            Status::Refused(f)
+        }
+    }
+}
+
+fn label_of(input: bool, channel: usize) -> Label
+    requires { ⌜ channel < channel-limit ⌝ }
+    ensures { λ r. ⌜ r ≡ label-of input channel ⌝ }
+{
+    if input {
+        return Label::Input(channel + 1);
+    }
+    Label::Output(channel + 1)
+}
+
+pub struct LabelRead {
+    pub status: Status,
+    pub channel: usize,
+    pub input: bool,
+    pub label: Label,
+}
+
+// `sync`, a channel, its mark and `;`.
+fn label_next(
+    s: &[u8],
+    st: Status,
+    names: [Name; NAME_SLOTS],
+    channels: [Channel; CHANNEL_LIMIT],
+) -> LabelRead
+    ensures { λ r. ⌜ r ≡ label-next (now (s .entry)) st names channels ⌝ }
+{
+    let synced = reader_parts::take(s, st, reader_tokens::SYNC);
+    let channel = reader_parts::use_name(s, synced, names, FIRST_CHANNEL, CHANNEL_LIMIT, false);
+    let named = channel.status;
+    let mark = mark_next(s, named);
+    let k = channel.number;
+    let input = mark.input;
+    let direction = direction_at(channels, k);
+    let right = fits(direction, input);
+    let marked = mark.status;
+    let passed = judged(marked, right, channel.place);
+    let end = reader_parts::take(s, passed, reader_tokens::SEMICOLON);
+    let label = label_of(input, k);
+    LabelRead {
+        status: end,
+        channel: k,
+        input: input,
+        label: label,
+    }
+}
+
+// The next token, which has to be a numeral of the value 0.
+fn zero_next(s: &[u8], st: Status) -> Status
+    ensures { λ r. ⌜ r ≡ zero-next (now (s .entry)) st ⌝ }
+{
+    match st {
+        Status::Refused(f) => Status::Refused(f),
+        Status::At(p) => {
+            let t = reader_tokens::token_at(s, p);
+            let a = t.place;
+            let f = Fault::Misfit(a);
+            if t.kind != reader_tokens::NUMERAL {
+                return Status::Refused(f);
+            }
+            let v = reader_tokens::number_at(s, a);
+            if v != 0 {
+                return Status::Refused(f);
+            }
+            Status::At(t.end)
+        }
+    }
+}
+
+pub struct AssignRead {
+    pub status: Status,
+    pub clock: usize,
+}
+
+// A clock, `=` and 0.
+fn assign_next(s: &[u8], st: Status, names: [Name; NAME_SLOTS]) -> AssignRead
+    ensures { λ r. ⌜ r ≡ assign-next (now (s .entry)) st names ⌝ }
+{
+    let clock = reader_parts::use_name(s, st, names, FIRST_CLOCK, CLOCK_LIMIT, false);
+    let named = clock.status;
+    let becomes = reader_parts::take(s, named, reader_tokens::BECOMES);
+    let end = zero_next(s, becomes);
+    AssignRead {
+        status: end,
+        clock: clock.number,
+    }
+}
+
+fn no_resets() -> [bool; CLOCK_LIMIT]
+    ensures { λ r. ⌜ r ≡ no-resets ⌝ }
+{
+    [false; CLOCK_LIMIT]
+}
+
+pub struct AssignsRead {
+    pub status: Status,
+    pub resets: [bool; CLOCK_LIMIT],
+}
+
+// Items joined by commas, then `;`. Each comma that is taken leaves fewer bytes.
+fn assign_items(s: &[u8], st: Status, names: [Name; NAME_SLOTS]) -> AssignsRead
+    ensures { λ r. ⌜ r ≡ items (now (s .entry)) names st no-resets ⌝ }
+{
+    let mut resets = [false; CLOCK_LIMIT];
+    let mut q = st;
+    loop {
+        let x = assign_next(s, q, names);
+        let came = x.status;
+        let k = x.clock;
+        resets[k] = true;
+        if !reader_parts::ahead(s, came, reader_tokens::COMMA) {
+            let end = reader_parts::take(s, came, reader_tokens::SEMICOLON);
+            return AssignsRead {
+                status: end,
+                resets: resets,
+            };
+        }
+        q = reader_parts::take(s, came, reader_tokens::COMMA);
+    }
+}
+
+// An optional `assign` with its items and `;`.
+fn assigns(s: &[u8], st: Status, names: [Name; NAME_SLOTS]) -> AssignsRead
+    ensures { λ r. ⌜ r ≡ assigns (now (s .entry)) st names ⌝ }
+{
+    if reader_parts::ahead(s, st, reader_tokens::ASSIGN) {
+        let q = reader_parts::take(s, st, reader_tokens::ASSIGN);
+        return assign_items(s, q, names);
+    }
+    let none = no_resets();
+    AssignsRead {
+        status: st,
+        resets: none,
+    }
+}
+
+pub struct EdgeRead {
+    pub status: Status,
+    pub channel: usize,
+    pub input: bool,
+    pub edge: Edge,
+}
+
+// An edge. `over`: it is one edge too many.
+pub fn edge_next(
+    s: &[u8],
+    st: Status,
+    names: [Name; NAME_SLOTS],
+    channels: [Channel; CHANNEL_LIMIT],
+    over: bool,
+) -> EdgeRead
+    ensures { λ r. ⌜ r ≡ edge-next (now (s .entry)) st names channels over ⌝ }
+{
+    let source = reader_parts::use_name(s, st, names, FIRST_LOCATION, LOCATION_LIMIT, over);
+    let a = source.status;
+    let b = reader_parts::take(s, a, reader_tokens::ARROW);
+    let target = reader_parts::use_name(s, b, names, FIRST_LOCATION, LOCATION_LIMIT, false);
+    let c = target.status;
+    let d = reader_parts::take(s, c, reader_tokens::OPEN);
+    let given = reader_constraints::guard(s, d, names);
+    let e = given.status;
+    let labelled = label_next(s, e, names, channels);
+    let f = labelled.status;
+    let assigned = assigns(s, f, names);
+    let g = assigned.status;
+    let end = reader_parts::take(s, g, reader_tokens::CLOSE);
+    let guard = given.constraint;
+    let label = labelled.label;
+    let resets = assigned.resets;
+    let made = Edge {
+        source: source.number,
+        target: target.number,
+        guard: guard,
+        label: label,
+        resets: resets,
+    };
+    EdgeRead {
+        status: end,
+        channel: labelled.channel,
+        input: labelled.input,
+        edge: made,
+    }
+}

@@ -1,0 +1,117 @@
+-- The records of the five texts, written out: the names by byte place and length, clocks and locations from 0, channels
+-- from 1.
+use mathlib.Core.Bool.{Bool, true, false}
+use mathlib.Core.List.{List, [], _∷_, _++_}
+use Prim.Native.Nat.{ℕ, _-_}
+use lib.ListN.{length, replicate}
+use Rattle.reader_record.specs.Limits.{channel-limit, clock-limit, location-limit, edge-limit, comparison-limit}
+use Rattle.reader_record.specs.Record.{no-name, no-channel, no-comparison}
+use Rattle.reader_record.specs.declared.Name.{Name}
+use Rattle.reader_record.specs.declared.Direction.{Direction}
+use Rattle.reader_record.specs.declared.Direction.the-variants as direction
+use Rattle.reader_record.specs.declared.Channel.{Channel}
+use Rattle.reader_record.specs.declared.Sign.{Sign}
+use Rattle.reader_record.specs.declared.Sign.the-variants.{AtMost, AtLeast}
+use Rattle.reader_record.specs.declared.Comparison.{Comparison}
+use Rattle.reader_record.specs.declared.Constraint.{Constraint}
+use Rattle.reader_record.specs.declared.Location.{Location}
+use Rattle.reader_record.specs.declared.Label.{Label}
+use Rattle.reader_record.specs.declared.Label.the-variants.{Input, Output}
+use Rattle.reader_record.specs.declared.Edge.{Edge}
+use Rattle.reader_record.specs.declared.Text.{Text}
+use Rattle.reader_lists.specs.State.{no-edge}
+use Rattle.reader_constraints.specs.Constraints.{no-constraint}
+
+-- a list as long as the code's array
+abbrev filled : {A : Type 0} → ℕ → A → List A → List A
+filled limit none l = l ++ replicate (limit - length l) none
+
+abbrev at : ℕ → ℕ → Name
+at place len = record { place = place; len = len }
+
+abbrev channel : Name → Direction → Channel
+channel n d = record { name = n; direction = d }
+
+-- one comparison of the clock x
+abbrev x-is : Sign → ℕ → Constraint
+x-is sign bound =
+    record {
+      comparisons = filled comparison-limit no-comparison (record { clock = 0; sign = sign; bound = bound } ∷ []);
+      count = 1;
+    }
+
+abbrev edge : ℕ → ℕ → Constraint → Label → Bool → Edge
+edge source target guard label reset =
+    record {
+      source = source;
+      target = target;
+      guard = guard;
+      label = label;
+      resets = filled clock-limit false (reset ∷ []);
+    }
+
+-- what the five texts have in common: the direction of `late`, the invariant of Wait, the name Done and the edges differ
+abbrev marker : Direction → Constraint → Name → List Edge → Text
+marker late wait done es = record {
+  channels =
+      filled channel-limit no-channel
+      (channel (at 15 4) direction.Input ∷ channel (at 21 5) direction.Input ∷ channel (at 28 4) late ∷ []);
+  «channel_count» = 3;
+  clocks = filled clock-limit no-name (at 57 1 ∷ []);
+  «clock_count» = 1;
+  locations =
+      filled location-limit (record { name = no-name; invariant = no-constraint })
+      (record { name = at 66 4; invariant = wait } ∷ record { name = done; invariant = no-constraint } ∷ []);
+  «location_count» = 2;
+  init = 0;
+  edges = filled edge-limit no-edge es;
+  «edge_count» = length es;
+}
+
+abbrev pub post-record : Text
+post-record =
+    marker direction.Output (x-is AtMost 3) (at 83 4)
+    (edge 0 1 no-constraint (Input 1) false
+    ∷ edge 0 0 no-constraint (Input 2) false
+    ∷ edge 0 1 (x-is AtLeast 3) (Output 3) false
+    ∷ edge 1 1 no-constraint (Input 1) false
+    ∷ edge 1 1 no-constraint (Input 2) false
+    ∷ [])
+
+-- the second edge resets x
+abbrev pub rearm-record : Text
+rearm-record =
+    marker direction.Output (x-is AtMost 3) (at 83 4)
+    (edge 0 1 no-constraint (Input 1) false
+    ∷ edge 0 0 no-constraint (Input 2) true
+    ∷ edge 0 1 (x-is AtLeast 3) (Output 3) false
+    ∷ edge 1 1 no-constraint (Input 1) false
+    ∷ edge 1 1 no-constraint (Input 2) false
+    ∷ [])
+
+-- both constants are 2
+abbrev pub early-record : Text
+early-record =
+    marker direction.Output (x-is AtMost 2) (at 83 4)
+    (edge 0 1 no-constraint (Input 1) false
+    ∷ edge 0 0 no-constraint (Input 2) false
+    ∷ edge 0 1 (x-is AtLeast 2) (Output 3) false
+    ∷ edge 1 1 no-constraint (Input 1) false
+    ∷ edge 1 1 no-constraint (Input 2) false
+    ∷ [])
+
+abbrev hushed : List Edge
+hushed =
+    edge 0 1 no-constraint (Input 1) false
+    ∷ edge 0 0 no-constraint (Input 2) false
+    ∷ edge 1 1 no-constraint (Input 1) false
+    ∷ edge 1 1 no-constraint (Input 2) false
+    ∷ []
+
+-- no edge names `late`
+abbrev pub hush-record : Text
+hush-record = marker direction.Unused (x-is AtMost 3) (at 83 4) hushed
+
+-- no invariant, so that Done stands earlier in the text
+abbrev pub idle-record : Text
+idle-record = marker direction.Unused no-constraint (at 72 4) hushed

@@ -1,0 +1,173 @@
+-- Refusals, each with its code and byte place, and the places where document 01 could be read two ways: computed by the
+-- definition of reading.
+use mathlib.Core.Path.{_≡_, refl}
+use Prim.Native.String.{String}
+use lib.ListN.{replicate}
+use Rattle.refusals.specs.declared.Refusal.{Refusal}
+use Rattle.refusals.specs.Refusals.{text-too-long, misfit, name-too-long, declared-before, unknown-name, constant-too-large, too-many-items, other-mark}
+use Rattle.reader_tokens.specs.Tokens.{bytes}
+use Rattle.reader_lists.specs.State.{no-text}
+use Rattle.reader.specs.declared.Answer.the-variants.{Accepted, Refused}
+use Rattle.reader.specs.Reading.{read-text}
+use Rattle.reader_examples.specs.Opened.{opened}
+
+-- the text is refused so, and the record beside the refusal is the fixed one
+abbrev pub Refuses : String → Refusal → Type 0
+Refuses s r = read-text (bytes s) ≡ record { answer = Refused r; text = no-text }
+
+abbrev pub Accepts : String → Type 0
+Accepts s = read-text (bytes s) .answer ≡ Accepted
+
+pub too-long : read-text (replicate 32769 32) ≡ record { answer = Refused text-too-long; text = no-text }
+unfolding opened
+too-long = refl
+
+-- each code of reading but 1, by a text or more
+pub record Codes : Type 0 where
+  -- 2, "or the end"
+  pub empty : Refuses "" (misfit 0)
+  -- 2, "first token that does not fit"
+  pub first-misfit : Refuses "process P(){init A;}system P;" (misfit 12)
+  -- 3, "name too long"
+  pub long-name : Refuses "broadcast chan nnnnnnnnnnnnnnnnnnnnnnnnnnnnnnnn;process P(){state A;init A;}system P;" (name-too-long 15)
+  -- 4, "name declared before"
+  pub twice : Refuses "broadcast chan a,b,a;process P(){state A;init A;}system P;" (declared-before 19)
+  -- 5, "name undeclared"
+  pub undeclared : Refuses "process P(){state A;init B;}system P;" (unknown-name 25)
+  -- 5, "or of the wrong kind"
+  pub wrong-kind : Refuses "broadcast chan a;process P(){state A;init a;}system P;" (unknown-name 42)
+  -- 5, "`system` names another process"
+  pub other-process : Refuses "process P(){state A;init A;}system Q;" (unknown-name 35)
+  -- 6, "constant over 1,000"
+  pub large : Refuses "process P(){clock x;state A{x<=1001},B;init B;}system P;" (constant-too-large 31)
+  -- 7, "first item over a count limit, at its first name"
+  pub clock-four : Refuses "process P(){clock x,y,z,w;state A;init A;}system P;" (too-many-items 24)
+  -- 7
+  pub channel-seventeen : Refuses "broadcast chan c0,c1,c2,c3,c4,c5,c6,c7,c8,c9,c10,c11,c12,c13,c14,c15,d;process P(){state A;init A;}system P;" (too-many-items 69)
+  -- 7
+  pub location-thirty-three : Refuses "process P(){state l0,l1,l2,l3,l4,l5,l6,l7,l8,l9,l10,l11,l12,l13,l14,l15,l16,l17,l18,l19,l20,l21,l22,l23,l24,l25,l26,l27,l28,l29,l30,l31,m;init l0;}system P;" (too-many-items 136)
+  -- 7
+  pub comparison-five : Refuses "process P(){clock x;state A{x<=1&&x<=1&&x<=1&&x<=1&&x<=1},B;init B;}system P;" (too-many-items 52)
+  -- 8, "channel used with the other mark, at its name"
+  pub mark : Refuses "broadcast chan a,b;process P(){clock x;state A,B;init A;trans A->B{sync a!;},B->A{sync a?;};}system P;" (other-mark 87)
+
+pub codes : Codes
+unfolding opened
+codes =
+    record {
+      empty = refl;
+      first-misfit = refl;
+      long-name = refl;
+      twice = refl;
+      undeclared = refl;
+      wrong-kind = refl;
+      other-process = refl;
+      large = refl;
+      clock-four = refl;
+      channel-seventeen = refl;
+      location-thirty-three = refl;
+      comparison-five = refl;
+      mark = refl;
+    }
+
+-- the places where document 01 could be read two ways
+pub record Ties : Type 0 where
+  -- the end is at the length of the text
+  pub the-end : Refuses "process \n" (misfit 9)
+  -- white space may stand before the first token and after the last
+  pub around : Accepts "\n\t process P(){state A;init A;}system P; \r\n"
+  -- other bytes are no space
+  pub form-feed : Refuses "process\u{c} P(){state A;init A;}system P;" (misfit 7)
+  -- also after the last token
+  pub after-last : Refuses "process P(){state A;init A;}system P;@" (misfit 37)
+  -- a lone `-` as the last byte is no end
+  pub lone-mark : Refuses "process P(){state A;init A;}system P;-" (misfit 37)
+  -- `- >` is no `->`
+  pub parted : Refuses "broadcast chan a,b;process P(){clock x;state A,B;init A;trans A- >B{sync a!;};}system P;" (misfit 63)
+  -- `3x` is a numeral and a name
+  pub numeral-name : Refuses "process P(){clock x;state A{x<=3x},B;init B;}system P;" (misfit 32)
+  -- `===` is `==` and `=`
+  pub three-signs : Refuses "broadcast chan a,b;process P(){clock x;state A,B;init A;trans A->B{guard x===3;sync a!;};}system P;" (misfit 76)
+  -- a word where a name is wanted
+  pub word : Refuses "process state(){state A;init A;}system state;" (misfit 8)
+  -- `A`, `B`, `tick` and `State` are names
+  pub no-words : Accepts "broadcast chan tick;process A(){state B,State;init B;}system A;"
+  -- lists are not empty
+  pub empty-invariant : Refuses "process P(){clock x;state A{},B;init B;}system P;" (misfit 28)
+  pub empty-guard : Refuses "broadcast chan a,b;process P(){clock x;state A,B;init A;trans A->B{guard ;sync a!;};}system P;" (misfit 73)
+  pub trailing-comma : Refuses "broadcast chan a,;process P(){state A;init A;}system P;" (misfit 17)
+  -- the value of a numeral counts
+  pub zeros : Accepts "process P(){clock x;state A{x<=0001000},B;init B;}system P;"
+  pub zeros-over : Refuses "process P(){clock x;state A{x<=0001001},B;init B;}system P;" (constant-too-large 31)
+  -- no wrap-around
+  pub nines : Refuses "process P(){clock x;state A{x<=9999999999999999999999999999999999999999},B;init B;}system P;" (constant-too-large 31)
+  -- `00` is 0
+  pub double-zero : Accepts "broadcast chan a,b;process P(){clock x;state A,B;init A;trans A->B{sync a!;assign x=00;};}system P;"
+  -- any value but 0 gives 2, also over 1,000
+  pub assigned-over : Refuses "broadcast chan a,b;process P(){clock x;state A,B;init A;trans A->B{sync a!;assign x=5000;};}system P;" (misfit 84)
+  -- a repeated clock is one reset
+  pub repeated : Accepts "broadcast chan a,b;process P(){clock x;state A,B;init A;trans A->B{sync a!;assign x=0,x=0;};}system P;"
+  -- 3 before 5
+  pub long-undeclared : Refuses "process P(){state A;init nnnnnnnnnnnnnnnnnnnnnnnnnnnnnnnn;}system P;" (name-too-long 25)
+  -- where no name fits it is 2
+  pub long-misfit : Refuses "process P nnnnnnnnnnnnnnnnnnnnnnnnnnnnnnnn(){state A;init A;}system P;" (misfit 10)
+  -- a clock named as the process
+  pub one-name-space : Refuses "process P(){clock P;state A;init A;}system P;" (declared-before 18)
+  -- clock 4 declared before is 4
+  pub four-before-seven : Refuses "process P(){clock x,y,z,P;state A;init A;}system P;" (declared-before 24)
+  -- comparison 5 with a constant over 1,000 is 7, at its lower place
+  pub seven-before-six : Refuses "process P(){clock x;state A{x<=1&&x<=1&&x<=1&&x<=1&&x<=5000},B;init B;}system P;" (too-many-items 52)
+  -- comparison 5 of a 32-byte name is 3
+  pub three-before-seven : Refuses "process P(){clock x;state A{x<=1&&x<=1&&x<=1&&x<=1&&nnnnnnnnnnnnnnnnnnnnnnnnnnnnnnnn<=1},B;init B;}system P;" (name-too-long 52)
+  -- comparison 5 of an undeclared clock is 5
+  pub five-before-seven : Refuses "process P(){clock x;state A{x<=1&&x<=1&&x<=1&&x<=1&&y<=1},B;init B;}system P;" (unknown-name 52)
+  -- the first name of an item over a limit is enough
+  pub cut-item : Refuses "process P(){clock x,y,z,w" (too-many-items 24)
+  -- an invariant names a later location
+  pub later-location : Refuses "process P(){clock x;state A{B<=3},B;init B;}system P;" (unknown-name 28)
+  -- no mark, no 8
+  pub no-mark : Refuses "broadcast chan a,b;process P(){clock x;state A,B;init A;trans A->B{sync a!;},B->A{sync a;};}system P;" (misfit 88)
+  -- a fault after the mark does not save it
+  pub after-mark : Refuses "broadcast chan a,b;process P(){clock x;state A,B;init A;trans A->B{sync a!;},B->A{sync a?};}system P;" (other-mark 87)
+  -- `system` names a channel
+  pub system-channel : Refuses "broadcast chan a;process P(){state A;init A;}system a;" (unknown-name 52)
+  -- 3 before 5
+  pub system-long : Refuses "process P(){state A;init A;}system nnnnnnnnnnnnnnnnnnnnnnnnnnnnnnnn;" (name-too-long 35)
+
+pub ties : Ties
+unfolding opened
+ties =
+    record {
+      the-end = refl;
+      around = refl;
+      form-feed = refl;
+      after-last = refl;
+      lone-mark = refl;
+      parted = refl;
+      numeral-name = refl;
+      three-signs = refl;
+      word = refl;
+      no-words = refl;
+      empty-invariant = refl;
+      empty-guard = refl;
+      trailing-comma = refl;
+      zeros = refl;
+      zeros-over = refl;
+      nines = refl;
+      double-zero = refl;
+      assigned-over = refl;
+      repeated = refl;
+      long-undeclared = refl;
+      long-misfit = refl;
+      one-name-space = refl;
+      four-before-seven = refl;
+      seven-before-six = refl;
+      three-before-seven = refl;
+      five-before-seven = refl;
+      cut-item = refl;
+      later-location = refl;
+      no-mark = refl;
+      after-mark = refl;
+      system-channel = refl;
+      system-long = refl;
+    }

@@ -1,0 +1,103 @@
+-- Document 01, "Marker posts to try": the five texts, byte by byte.
+use mathlib.Core.List.{List, [], _∷_, _++_}
+use Prim.Native.Nat.{ℕ}
+use Prim.Native.Char.{code}
+use Prim.Native.String.{String}
+use Rattle.reader_tokens.specs.Tokens.{bytes}
+
+-- lines, each with its line feed
+abbrev pub lines : List String → List ℕ
+lines [] = []
+lines (l ∷ ls) = bytes l ++ (code "\n" ∷ lines ls)
+
+abbrev pub post : List ℕ
+post =
+    lines
+    ("broadcast chan pass, spike, late;"
+    ∷ "process Post() {"
+    ∷ "clock x;"
+    ∷ "state Wait { x <= 3 }, Done;"
+    ∷ "init Wait;"
+    ∷ "trans"
+    ∷ "Wait -> Done { sync pass?; },"
+    ∷ "Wait -> Wait { sync spike?; },"
+    ∷ "Wait -> Done { guard x >= 3; sync late!; },"
+    ∷ "Done -> Done { sync pass?; },"
+    ∷ "Done -> Done { sync spike?; };"
+    ∷ "}"
+    ∷ "system Post;"
+    ∷ [])
+
+-- "Rearm adds `assign x = 0;` to the second edge."
+abbrev pub rearm : List ℕ
+rearm =
+    lines
+    ("broadcast chan pass, spike, late;"
+    ∷ "process Post() {"
+    ∷ "clock x;"
+    ∷ "state Wait { x <= 3 }, Done;"
+    ∷ "init Wait;"
+    ∷ "trans"
+    ∷ "Wait -> Done { sync pass?; },"
+    ∷ "Wait -> Wait { sync spike?; assign x = 0; },"
+    ∷ "Wait -> Done { guard x >= 3; sync late!; },"
+    ∷ "Done -> Done { sync pass?; },"
+    ∷ "Done -> Done { sync spike?; };"
+    ∷ "}"
+    ∷ "system Post;"
+    ∷ [])
+
+-- "Early has 2 for both 3s."
+abbrev pub early : List ℕ
+early =
+    lines
+    ("broadcast chan pass, spike, late;"
+    ∷ "process Post() {"
+    ∷ "clock x;"
+    ∷ "state Wait { x <= 2 }, Done;"
+    ∷ "init Wait;"
+    ∷ "trans"
+    ∷ "Wait -> Done { sync pass?; },"
+    ∷ "Wait -> Wait { sync spike?; },"
+    ∷ "Wait -> Done { guard x >= 2; sync late!; },"
+    ∷ "Done -> Done { sync pass?; },"
+    ∷ "Done -> Done { sync spike?; };"
+    ∷ "}"
+    ∷ "system Post;"
+    ∷ [])
+
+-- "Hush drops the `late!` edge."
+abbrev pub hush : List ℕ
+hush =
+    lines
+    ("broadcast chan pass, spike, late;"
+    ∷ "process Post() {"
+    ∷ "clock x;"
+    ∷ "state Wait { x <= 3 }, Done;"
+    ∷ "init Wait;"
+    ∷ "trans"
+    ∷ "Wait -> Done { sync pass?; },"
+    ∷ "Wait -> Wait { sync spike?; },"
+    ∷ "Done -> Done { sync pass?; },"
+    ∷ "Done -> Done { sync spike?; };"
+    ∷ "}"
+    ∷ "system Post;"
+    ∷ [])
+
+-- "Idle is Hush without the invariant."
+abbrev pub idle : List ℕ
+idle =
+    lines
+    ("broadcast chan pass, spike, late;"
+    ∷ "process Post() {"
+    ∷ "clock x;"
+    ∷ "state Wait, Done;"
+    ∷ "init Wait;"
+    ∷ "trans"
+    ∷ "Wait -> Done { sync pass?; },"
+    ∷ "Wait -> Wait { sync spike?; },"
+    ∷ "Done -> Done { sync pass?; },"
+    ∷ "Done -> Done { sync spike?; };"
+    ∷ "}"
+    ∷ "system Post;"
+    ∷ [])

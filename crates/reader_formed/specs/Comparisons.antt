@@ -1,0 +1,222 @@
+-- A guard or an invariant that is read: its clocks are declared, its constants are allowed, and in an invariant every
+-- sign is `<=`.
+use mathlib.Core.Path.{_≡_, refl, sym, _∙_}
+use mathlib.Core.Bool.{Bool, true, false}
+use mathlib.Core.List.{List}
+use Prim.Native.Nat.{ℕ, zero, suc, _+_, _≤_, _<_}
+use native.Mathlib.Omega.{arith}
+use lib.Dec.{eqb, ltb}
+use lib.ListN.{length, drop, length-set}
+use borrow.Author.Tests.{ltb-false}
+use Rattle.reader_record.specs.Limits.{clock-limit, comparison-limit, largest-constant}
+use Rattle.reader_parts.specs.Slots.{first-clock}
+use Rattle.reader_tokens.specs.Kinds as kinds
+use Rattle.reader_tokens.specs.Scan.{value}
+use Rattle.reader_tokens.specs.Tokens.{token-at}
+use Rattle.reader_tokens.specs.declared.Token.{Token}
+use Rattle.reader_record.specs.declared.Name.{Name}
+use Rattle.reader_record.specs.declared.Sign.the-variants.{AtMost}
+use Rattle.reader_record.specs.declared.Comparison.{Comparison}
+use Rattle.reader_record.specs.declared.Constraint.{Constraint}
+use Rattle.reader_record.specs.Record as record-of
+use Rattle.reader_parts.specs.declared.Status.{Status}
+use Rattle.reader_parts.specs.declared.Status.the-variants.{At, Refused}
+use Rattle.reader_parts.specs.Status.{take, ahead}
+use Rattle.reader_constraints.specs.declared.Amount.{Amount}
+use Rattle.reader_constraints.specs.declared.SignRead.{SignRead}
+use Rattle.reader_constraints.specs.declared.ComparisonRead.{ComparisonRead}
+use Rattle.reader_constraints.specs.declared.ConstraintRead.{ConstraintRead}
+use Rattle.reader_constraints.specs.Constraints.{constant-of, constant, sign-of, sign-next, comparison, no-constraint, with-comparison, constraint-from, constraint, guard, invariant}
+use Rattle.reader_formed.specs.Cases.{split, either, never, stored}
+use Rattle.reader_formed.specs.Going.{Going, take-going}
+use Rattle.reader_formed.specs.Declared.{used}
+use Rattle.reader_formed.specs.Slots.{Known, used-below}
+
+-- a constant that is read
+record Constant (st : Status) (a : Amount) : Type 0 where
+  before : Going st
+  bound : a .value ≤ largest-constant
+
+of-constant : (s : List ℕ) (t : Token) → Going (constant-of s t .status) → constant-of s t .value ≤ largest-constant
+unfolding constant-of
+of-constant s t =
+    split P (eqb (t .kind) kinds.numeral)
+    (λ _. split P (ltb largest-constant (value 0 (drop (t .place) s)))
+    (λ _ g. absurd g)
+    (λ l _. ltb-false largest-constant (value 0 (drop (t .place) s)) l))
+    (λ _ g. absurd g)
+  where
+    P : Amount → Type 0
+    P a = Going (a .status) → a .value ≤ largest-constant
+
+constant-read : (s : List ℕ) (st : Status) → Going (constant s st .status) → Constant st (constant s st)
+unfolding constant
+constant-read s (At p) g = record { before = tt; bound = of-constant s (token-at s p) g }
+constant-read s (Refused f) g = absurd g
+
+-- a sign that is read
+record Signed (st : Status) (only : Bool) (r : SignRead) : Type 0 where
+  before : Going st
+  sign : only ≡ true → r .sign ≡ AtMost
+
+of-sign : (only : Bool) (t : Token) → Going (sign-of only t .status) → only ≡ true → sign-of only t .sign ≡ AtMost
+unfolding sign-of
+of-sign only t =
+    split P (eqb (t .kind) kinds.at-most)
+    (λ _ g o. refl)
+    (λ _. split P only (λ _ g. absurd g) (λ e g o. never (sym o ∙ e)))
+  where
+    P : SignRead → Type 0
+    P r = Going (r .status) → only ≡ true → r .sign ≡ AtMost
+
+sign-read :
+    (s : List ℕ) (st : Status) (only : Bool) → Going (sign-next s st only .status) →
+    Signed st only (sign-next s st only)
+unfolding sign-next
+sign-read s (At p) only g = record { before = tt; sign = of-sign only (token-at s p) g }
+sign-read s (Refused f) only g = absurd g
+
+-- a comparison in a text with so many clocks; `only`: `<=` is the only sign
+pub record Formed-comparison (clocks : ℕ) (only : Bool) (x : Comparison) : Type 0 where
+  pub clock : x .clock < clocks
+  pub bound : x .bound ≤ largest-constant
+  pub sign : only ≡ true → x .sign ≡ AtMost
+
+module _ (s : List ℕ) (names : List Name) (only : Bool) where
+  pub record Compared (st : Status) (x : ComparisonRead) : Type 0 where
+    pub before : Going st
+    pub formed :
+        (clocks : ℕ) → Known s names first-clock clock-limit clocks → Formed-comparison clocks only (x .comparison)
+
+  compared :
+      (st : Status) (over : Bool) → Going (comparison s st names only over .status) →
+      Compared st (comparison s st names only over)
+  unfolding comparison
+  compared st over g =
+      let c = constant-read s _ g in
+      let i = sign-read s _ only (c .before) in
+      let u = used s names first-clock clock-limit (omega arith) over st (i .before) in
+      record {
+        before = u .before;
+        formed = λ n k. record {
+          clock = used-below s st names first-clock clock-limit n _ u k;
+          bound = c .bound;
+          sign = i .sign;
+        };
+      }
+
+-- the comparisons of a constraint
+pub record Formed-comparisons (clocks : ℕ) (only : Bool) (c : Constraint) : Type 0 where
+  pub few : c .count ≤ comparison-limit
+  pub each : (i : ℕ) → i < c .count → Formed-comparison clocks only (record-of.comparison c i)
+
+-- those of one that is read, with room for more
+record So-far (clocks : ℕ) (only : Bool) (room : ℕ) (c : Constraint) : Type 0 where
+  size : length (c .comparisons) ≡ comparison-limit
+  limit : c .count + room ≤ comparison-limit
+  each : (i : ℕ) → i < c .count → Formed-comparison clocks only (record-of.comparison c i)
+
+none-yet : (clocks : ℕ) (only : Bool) → So-far clocks only comparison-limit no-constraint
+unfolding no-constraint
+none-yet clocks only = record { size = refl; limit = omega arith; each = λ i h. absurd (omega arith) }
+
+with-one :
+    (clocks : ℕ) (only : Bool) (room : ℕ) (c : Constraint) (x : Comparison) → Formed-comparison clocks only x →
+    So-far clocks only (suc room) c → So-far clocks only room (with-comparison c x)
+unfolding with-comparison
+with-one clocks only room c x f h = record {
+  size = length-set (c .comparisons) (c .count) x ∙ h .size;
+  limit = omega (arith, h .limit);
+  each = λ i l. stored (Formed-comparison clocks only) (c .comparisons) (c .count) i x record-of.no-comparison
+      (omega (arith, h .limit, h .size))
+      (λ _. f)
+      (λ e. h .each i (omega arith));
+}
+
+whole :
+    (clocks : ℕ) (only : Bool) (room : ℕ) (c : Constraint) → So-far clocks only room c →
+    Formed-comparisons clocks only c
+whole clocks only room c h = record { few = omega (arith, h .limit); each = h .each }
+
+-- a constraint that is read: the reader went on before it, and it is formed where what came before is
+module _ (s : List ℕ) (names : List Name) (only : Bool) where
+  record Constrained (room : ℕ) (st : Status) (c : Constraint) (r : ConstraintRead) : Type 0 where
+    before : Going st
+    formed :
+        (clocks : ℕ) → Known s names first-clock clock-limit clocks → So-far clocks only room c →
+        Formed-comparisons clocks only (r .constraint)
+
+  from-read :
+      (closing room : ℕ) (st : Status) (c : Constraint) →
+      Going (constraint-from room s names only closing st c .status) →
+      Constrained room st c (constraint-from room s names only closing st c)
+  unfolding constraint-from
+  from-read closing zero st c =
+      λ g. record { before = compared s names only st true g .before; formed = λ n k h. whole n only zero c h }
+  from-read closing (suc room) st c =
+      either P (ahead s (comparison s st names only false .status) kinds.both)
+      (λ g. more (from-read closing room _ _ g))
+      (λ g. last (compared s names only st false (take-going s _ closing g)))
+    where
+      P : ConstraintRead → Type 0
+      P r = Going (r .status) → Constrained (suc room) st c r
+
+      x : ComparisonRead
+      x = comparison s st names only false
+
+      last :
+          Compared s names only st x → {to : Status} →
+          Constrained (suc room) st c (record { status = to; constraint = with-comparison c (x .comparison) })
+      last m = record {
+        before = m .before;
+        formed = λ n k h. whole n only room (with-comparison c (x .comparison))
+            (with-one n only room c (x .comparison) (m .formed n k) h);
+      }
+
+      more :
+          {r : ConstraintRead} →
+          Constrained room (take s (x .status) kinds.both) (with-comparison c (x .comparison)) r →
+          Constrained (suc room) st c r
+      more q =
+          let m = compared s names only st false (take-going s (x .status) kinds.both (q .before)) in
+          record {
+            before = m .before;
+            formed = λ n k h. q .formed n k (with-one n only room c (x .comparison) (m .formed n k) h);
+          }
+
+  pub record Constraint-read (st : Status) (r : ConstraintRead) : Type 0 where
+    pub before : Going st
+    pub formed :
+        (clocks : ℕ) → Known s names first-clock clock-limit clocks → Formed-comparisons clocks only (r .constraint)
+
+  given :
+      (closing : ℕ) (st : Status) → Going (constraint s st names only closing .status) →
+      Constraint-read st (constraint s st names only closing)
+  unfolding constraint
+  given closing st g =
+      let q = from-read closing comparison-limit st no-constraint g in
+      record { before = q .before; formed = λ n k. q .formed n k (none-yet n only) }
+
+  absent : (st : Status) → Going st → Constraint-read st (record { status = st; constraint = no-constraint })
+  absent st g = record { before = g; formed = λ n k. whole n only comparison-limit no-constraint (none-yet n only) }
+
+  after-token : (st : Status) (k : ℕ) {r : ConstraintRead} → Constraint-read (take s st k) r → Constraint-read st r
+  after-token st k q = record { before = take-going s st k (q .before); formed = q .formed }
+
+pub guard-read :
+    (s : List ℕ) (st : Status) (names : List Name) → Going (guard s st names .status) →
+    Constraint-read s names false st (guard s st names)
+unfolding guard
+guard-read s st names =
+    either (λ (r : ConstraintRead). Going (r .status) → Constraint-read s names false st r) (ahead s st kinds.guard)
+    (λ g. after-token s names false st kinds.guard (given s names false kinds.semicolon (take s st kinds.guard) g))
+    (λ g. absent s names false st g)
+
+pub invariant-read :
+    (s : List ℕ) (st : Status) (names : List Name) → Going (invariant s st names .status) →
+    Constraint-read s names true st (invariant s st names)
+unfolding invariant
+invariant-read s st names =
+    either (λ (r : ConstraintRead). Going (r .status) → Constraint-read s names true st r) (ahead s st kinds.opens)
+    (λ g. after-token s names true st kinds.opens (given s names true kinds.closes (take s st kinds.opens) g))
+    (λ g. absent s names true st g)

@@ -1,0 +1,160 @@
+-- An edge that is read: its locations, clocks and channel are declared, and its mark fits the channel's earlier uses.
+use mathlib.Core.Path.{_≡_, refl, sym}
+use mathlib.Core.Bool.{Bool, true, false}
+use mathlib.Core.List.{List}
+use Prim.Native.Nat.{ℕ, zero, suc, _+_, _<_}
+use native.Mathlib.Omega.{arith}
+use lib.Dec.{T}
+use lib.ListN.{length, getD}
+use Rattle.reader_record.specs.Limits.{channel-limit, clock-limit, location-limit}
+use Rattle.reader_parts.specs.Slots.{first-channel, first-clock, first-location}
+use Rattle.reader_tokens.specs.Kinds as kinds
+use Rattle.reader_record.specs.declared.Name.{Name}
+use Rattle.reader_record.specs.declared.Channel.{Channel}
+use Rattle.reader_record.specs.declared.Direction.{Direction}
+use Rattle.reader_record.specs.declared.Direction.the-variants as direction
+use Rattle.reader_record.specs.declared.Label.{Label}
+use Rattle.reader_record.specs.declared.Label.the-variants as label
+use Rattle.reader_record.specs.Record.{no-channel, channel}
+use Rattle.reader_record.specs.Formed.{agrees}
+use Rattle.reader_parts.specs.declared.Status.{Status}
+use Rattle.reader_parts.specs.declared.Status.the-variants.{At, Refused}
+use Rattle.reader_parts.specs.Status.{take, ahead}
+use Rattle.reader_constraints.specs.Constraints.{guard}
+use Rattle.reader_edges.specs.declared.LabelRead.{LabelRead}
+use Rattle.reader_edges.specs.declared.AssignsRead.{AssignsRead}
+use Rattle.reader_edges.specs.declared.EdgeRead.{EdgeRead}
+use Rattle.reader_edges.specs.Labels.{mark-next, fits, judged, label-of, label-next}
+use Rattle.reader_edges.specs.Assigns.{zero-next, assign-next, assigns-from, items, assigns}
+use Rattle.reader_edges.specs.Edges.{edge-next}
+use Rattle.reader_lists.specs.State.{direction-of}
+use Rattle.reader_formed.specs.Cases.{either, never}
+use Rattle.reader_formed.specs.Going.{Going, take-going}
+use Rattle.reader_formed.specs.Declared.{used}
+use Rattle.reader_formed.specs.Slots.{Known, used-below}
+use Rattle.reader_formed.specs.Comparisons.{Formed-comparisons, guard-read}
+
+mark-going : (s : List ℕ) (st : Status) → Going (mark-next s st .status) → Going st
+unfolding mark-next
+mark-going s (At p) g = tt
+mark-going s (Refused f) g = g
+
+judged-going : (st : Status) (right : Bool) (place : ℕ) → Going (judged st right place) → Going st
+unfolding judged
+judged-going (At p) right place g = tt
+judged-going (Refused f) right place g = g
+
+judged-right : (st : Status) (right : Bool) (place : ℕ) → Going (judged st right place) → right ≡ true
+unfolding judged
+judged-right (At p) true place g = refl
+judged-right (At p) false place g = absurd g
+judged-right (Refused f) right place g = absurd g
+
+-- the label has the mark's direction and the channel's number, from 1
+pub label-channel : (input : Bool) (k : ℕ) → channel (label-of input k) ≡ k + 1
+unfolding label-of channel
+label-channel true k = refl
+label-channel false k = refl
+
+pub label-agrees : (input : Bool) (k : ℕ) → T (agrees (label-of input k) (direction-of input))
+unfolding label-of agrees direction-of
+label-agrees true k = tt
+label-agrees false k = tt
+
+-- a label that agrees with the direction so far agrees with the mark that fits it
+pub still-agrees :
+    (l : Label) (d : Direction) (input : Bool) → fits d input ≡ true → T (agrees l d) →
+    T (agrees l (direction-of input))
+unfolding fits agrees direction-of
+still-agrees (label.Input c) direction.Unused input f h = absurd h
+still-agrees (label.Input c) direction.Input true f h = tt
+still-agrees (label.Input c) direction.Input false f h = never (sym f)
+still-agrees (label.Input c) direction.Output input f h = absurd h
+still-agrees (label.Output c) direction.Unused input f h = absurd h
+still-agrees (label.Output c) direction.Input input f h = absurd h
+still-agrees (label.Output c) direction.Output true f h = never (sym f)
+still-agrees (label.Output c) direction.Output false f h = tt
+
+-- the direction of channel k, from 0, so far
+abbrev pub direction-at : List Channel → ℕ → Direction
+direction-at channels k = getD channels k no-channel .direction
+
+-- a label that is read
+record Labelled (s : List ℕ) (st : Status) (names : List Name) (channels : List Channel) (r : LabelRead) : Type 0 where
+  before : Going st
+  right : fits (direction-at channels (r .channel)) (r .input) ≡ true
+  same : r .label ≡ label-of (r .input) (r .channel)
+  known : (count : ℕ) → Known s names first-channel channel-limit count → r .channel < count
+
+labelled :
+    (s : List ℕ) (st : Status) (names : List Name) (channels : List Channel) →
+    Going (label-next s st names channels .status) → Labelled s st names channels (label-next s st names channels)
+unfolding label-next
+labelled s st names channels g =
+    let j = take-going s _ kinds.semicolon g in
+    let m = judged-going _ _ _ j in
+    let u = used s names first-channel channel-limit (omega arith) false (take s st kinds.sync) (mark-going s _ m) in
+    record {
+      before = take-going s st kinds.sync (u .before);
+      right = judged-right _ _ _ j;
+      same = refl;
+      known = λ n k. used-below s (take s st kinds.sync) names first-channel channel-limit n _ u k;
+    }
+
+zero-going : (s : List ℕ) (st : Status) → Going (zero-next s st) → Going st
+unfolding zero-next
+zero-going s (At p) g = tt
+zero-going s (Refused f) g = g
+
+assign-going : (s : List ℕ) (st : Status) (names : List Name) → Going (assign-next s st names .status) → Going st
+unfolding assign-next
+assign-going s st names g =
+    used s names first-clock clock-limit (omega arith) false st (take-going s _ kinds.becomes (zero-going s _ g)) .before
+
+items-going :
+    (s : List ℕ) (names : List Name) (room : ℕ) (st : Status) (resets : List Bool) →
+    Going (assigns-from room s names st resets .status) → Going st
+unfolding assigns-from
+items-going s names zero st resets = λ g. g
+items-going s names (suc room) st resets =
+    either (λ (r : AssignsRead). Going (r .status) → Going st) (ahead s (assign-next s st names .status) kinds.comma)
+    (λ g. assign-going s st names (take-going s _ kinds.comma (items-going s names room _ _ g)))
+    (λ g. assign-going s st names (take-going s _ kinds.semicolon g))
+
+assigns-going : (s : List ℕ) (st : Status) (names : List Name) → Going (assigns s st names .status) → Going st
+unfolding assigns items
+assigns-going s st names =
+    either (λ (r : AssignsRead). Going (r .status) → Going st) (ahead s st kinds.assign)
+    (λ g. take-going s st kinds.assign (items-going s names (suc (length s)) _ _ g))
+    (λ g. g)
+
+-- an edge that is read
+pub record Edge-read (s : List ℕ) (st : Status) (names : List Name) (channels : List Channel) (r : EdgeRead) : Type 0 where
+  pub before : Going st
+  pub right : fits (direction-at channels (r .channel)) (r .input) ≡ true
+  pub label : r .edge .label ≡ label-of (r .input) (r .channel)
+  pub known : (count : ℕ) → Known s names first-channel channel-limit count → r .channel < count
+  pub guard :
+      (count : ℕ) → Known s names first-clock clock-limit count → Formed-comparisons count false (r .edge .guard)
+  pub source : (count : ℕ) → Known s names first-location location-limit count → r .edge .source < count
+  pub target : (count : ℕ) → Known s names first-location location-limit count → r .edge .target < count
+
+pub edge-read :
+    (s : List ℕ) (st : Status) (names : List Name) (channels : List Channel) (over : Bool) →
+    Going (edge-next s st names channels over .status) →
+    Edge-read s st names channels (edge-next s st names channels over)
+unfolding edge-next
+edge-read s st names channels over g =
+    let l = labelled s _ names channels (assigns-going s _ names (take-going s _ kinds.closes g)) in
+    let q = guard-read s _ names (l .before) in
+    let t = used s names first-location location-limit (omega arith) false _ (take-going s _ kinds.opens (q .before)) in
+    let o = used s names first-location location-limit (omega arith) over st (take-going s _ kinds.arrow (t .before)) in
+    record {
+      before = o .before;
+      right = l .right;
+      label = l .same;
+      known = l .known;
+      guard = q .formed;
+      source = λ n k. used-below s st names first-location location-limit n _ o k;
+      target = λ n k. used-below s _ names first-location location-limit n _ t k;
+    }

@@ -1,0 +1,1 @@
+// Theorems only: what reading promises of an accepted text.

@@ -1,0 +1,26 @@
+-- `ahead` is `ahead`, case by case.
+use borrow.Author.Needs.{needs}
+use mathlib.Core.Path.{sym}
+use Rattle.reader_parts.specs.Status.{ahead}
+use Rattle.reader_parts.proofs.ahead.Statement.{statement}
+use Rattle.reader_parts.proofs.ahead.Tie as tie
+
+enum-told : tie.Need-enum-told
+enum-told c = search needs
+
+enum-known-st : tie.Need-enum-known-st
+enum-known-st c = search needs
+
+token-at-requires : tie.Need-token-at-requires
+token-at-requires c κs = search needs
+
+returns : tie.Need-returns
+unfolding ahead
+returns c = rw (c .enum-told .given .1)
+
+returns-2 : tie.Need-returns-2
+unfolding ahead
+returns-2 c = rw (c .before .before .before .st .given .1, sym (c .before .token-at .ensures))
+
+pub ahead-spec : {M : Type 1} → statement M
+ahead-spec = tie.close (tie.spec enum-told enum-known-st token-at-requires returns returns-2)

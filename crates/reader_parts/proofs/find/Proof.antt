@@ -1,0 +1,71 @@
+-- `find` is `slot-of`: the slots that are passed so far do not change it.
+use borrow.Author.Needs.{needs}
+use native.Mathlib.Omega.{arith}
+use Prim.Native.Nat.{_-_}
+use mathlib.Core.Path.{_≡_, sym, _∙_}
+use Rattle.reader_parts.specs.Slots.{name-slots}
+use Rattle.reader_tokens.specs.Scan.{past}
+use Rattle.reader_parts.specs.Names.{differs, slot-of}
+use Rattle.reader_tokens.proofs.Scan.{past-yes, past-no, past-end}
+use Rattle.reader_parts.proofs.find.Statement.{statement}
+use Rattle.reader_parts.proofs.find.Tie as tie
+
+abbrev Inv-loop : tie.InvT-loop
+Inv-loop s name names i₀ i = past (differs s name) names i ≡ past (differs s name) names 0
+
+abbrev μ-loop : tie.MeasureT-loop
+μ-loop s name names i₀ i = name-slots - i
+
+loop-holds : tie.Need-loop-holds Inv-loop μ-loop
+loop-holds c = search needs
+
+mul-n : tie.Need-mul-n Inv-loop μ-loop
+mul-n c = search needs
+
+array-copy-out-n : tie.Need-array-copy-out-n Inv-loop μ-loop
+array-copy-out-n c = search needs
+
+is-same-requires : tie.Need-is-same-requires Inv-loop μ-loop
+is-same-requires c κs = search needs
+
+returns : tie.Need-returns Inv-loop μ-loop
+unfolding slot-of differs
+returns c = sym (past-no (differs (c .before .before .before .before .before .before .args .s .now)
+    (c .before .before .before .before .before .before .args .name))
+    (c .before .before .before .before .before .before .args .t2) (c .before .before .before .before .loop .i)
+    (record { place = 0; len = 0 }) (omega arith) (rw (sym (c .before .is-same .ensures), c .if1 .taken)))
+    ∙ c .before .before .before .before .loop .inv
+
+add-i : tie.Need-add-i Inv-loop μ-loop
+add-i c = search needs
+
+loop-less : tie.Need-loop-less Inv-loop μ-loop
+loop-less c = search needs
+
+loop-again : tie.Need-loop-again Inv-loop μ-loop
+unfolding slot-of differs
+loop-again c = sym (past-yes (differs (c .before .before .before .before .before .before .args .s .now)
+    (c .before .before .before .before .before .before .args .name))
+    (c .before .before .before .before .before .before .args .t2) (c .before .before .before .before .loop .i)
+    (record { place = 0; len = 0 }) (omega arith) (rw (sym (c .before .is-same .ensures), c .if1 .left)))
+    ∙ c .before .before .before .before .loop .inv
+
+returns-2 : tie.Need-returns-2 Inv-loop μ-loop
+unfolding slot-of
+returns-2 c = sym (past-end (differs _ _) _ (c .before .loop .i) (omega arith)) ∙ c .before .loop .inv
+
+pub find-spec : {M : Type 1} → statement M
+find-spec =
+    tie.close
+    (tie.spec
+    Inv-loop
+    μ-loop
+    loop-holds
+    mul-n
+    array-copy-out-n
+    is-same-requires
+    returns
+    add-i
+    loop-less
+    loop-again
+    returns-2)

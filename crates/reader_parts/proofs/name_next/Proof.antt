@@ -1,0 +1,86 @@
+-- `name_next` is `name-next`, case by case.
+use borrow.Author.Needs.{needs}
+use borrow.Author.Tests.{eq-eqb, ne-eqb, lt-ltb, le-ltb}
+use mathlib.Core.Path.{sym}
+use lib.ListN.{length}
+use Rattle.reader_record.specs.Limits.{largest-name}
+use Rattle.reader_parts.specs.Status.{name-of, name-next}
+use Rattle.reader_parts.proofs.name_next.Statement.{statement}
+use Rattle.reader_parts.proofs.name_next.Tie as tie
+
+enum-known-st : tie.Need-enum-known-st
+enum-known-st c = search needs
+
+no-name-read-requires : tie.Need-no-name-read-requires
+no-name-read-requires c κs = search needs
+
+enum-known-st-2 : tie.Need-enum-known-st-2
+enum-known-st-2 c = search needs
+
+token-at-requires : tie.Need-token-at-requires
+token-at-requires c κs = search needs
+
+no-name-read-requires-2 : tie.Need-no-name-read-requires-2
+no-name-read-requires-2 c κs = search needs
+
+returns : tie.Need-returns
+unfolding name-next name-of
+returns c = rw (
+  c .before .before .before .before .before .st2 .given .1,
+  sym
+      (c .before .before .before .token-at .ensures),
+  ne-eqb _ _ (c .before .if1 .taken),
+  c .no-name-read2 .ensures,
+)
+
+length-requires : tie.Need-length-requires
+length-requires c κs = search needs
+
+no-name-read-requires-3 : tie.Need-no-name-read-requires-3
+no-name-read-requires-3 c κs = search needs
+
+returns-2 : tie.Need-returns-2
+unfolding name-next name-of
+returns-2 c = rw (
+  c .before .before .before .before .before .before .before .st2 .given .1,
+  sym
+      (c .before .before .before .before .before .token-at .ensures),
+  eq-eqb _ _
+      (c .before .before .before .if1 .left),
+  sym (c .before .before .length .ensures),
+  lt-ltb largest-name _
+      (c .before .if2 .taken),
+  c .no-name-read3 .ensures,
+)
+
+returns-3 : tie.Need-returns-3
+unfolding name-next
+returns-3 c = rw (c .before .before .st .given .1, c .no-name-read .ensures)
+
+returns-4 : tie.Need-returns-4
+unfolding name-next name-of
+returns-4 c = rw (
+  c .before .before .before .before .before .before .st2 .given .1,
+  sym
+      (c .before .before .before .before .token-at .ensures),
+  eq-eqb _ _ (c .before .before .if1 .left),
+  sym
+      (c .before .length .ensures),
+  le-ltb largest-name _ (c .if2 .left),
+)
+
+pub name-next-spec : {M : Type 1} → statement M
+name-next-spec =
+    tie.close
+    (tie.spec
+    enum-known-st
+    no-name-read-requires
+    enum-known-st-2
+    token-at-requires
+    no-name-read-requires-2
+    returns
+    length-requires
+    no-name-read-requires-3
+    returns-2
+    returns-3
+    returns-4)

@@ -1,0 +1,23 @@
+-- The table of names. "All names in one file differ", so one table holds them all, each kind in slots of its own: the
+-- process, the channels, the clocks and the locations. A slot that is not taken yet has a name of no bytes.
+use Prim.Native.Nat.{ℕ, _+_}
+use Rattle.reader_record.specs.Limits.{channel-limit, clock-limit, location-limit}
+
+abbrev pub process-slot : ℕ
+process-slot = 0
+
+-- a text has one process
+abbrev pub process-limit : ℕ
+process-limit = 1
+
+abbrev pub first-channel : ℕ
+first-channel = process-slot + process-limit
+
+abbrev pub first-clock : ℕ
+first-clock = first-channel + channel-limit
+
+abbrev pub first-location : ℕ
+first-location = first-clock + clock-limit
+
+abbrev pub name-slots : ℕ
+name-slots = first-location + location-limit

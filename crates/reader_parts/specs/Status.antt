@@ -1,0 +1,43 @@
+-- "The reader reads tokens from left to right and remembers its place": how far it has come, and single tokens. The first
+-- fault stays: what comes after it is not read.
+use mathlib.Core.Bool.{Bool, true, false, cond}
+use mathlib.Core.List.{List}
+use Prim.Native.Nat.{ℕ, _-_}
+use lib.Dec.{eqb, ltb}
+use Rattle.reader_tokens.specs.Kinds as kinds
+use Rattle.reader_tokens.specs.Tokens.{token-at}
+use Rattle.reader_tokens.specs.declared.Token.{Token}
+use Rattle.reader_record.specs.Limits.{largest-name}
+use Rattle.reader_record.specs.Record.{no-name}
+use Rattle.reader_parts.specs.declared.Fault.{Fault}
+use Rattle.reader_parts.specs.declared.Fault.the-variants.{Misfit, NameTooLong}
+use Rattle.reader_parts.specs.declared.Status.{Status}
+use Rattle.reader_parts.specs.declared.Status.the-variants.{At, Refused}
+use Rattle.reader_parts.specs.declared.NameRead.{NameRead}
+
+-- the next token, which has to be of the kind k; one that does not fit is refused at its place
+unfoldable pub take : List ℕ → Status → ℕ → Status
+take s (Refused f) k = Refused f
+take s (At p) k = let t = token-at s p in cond (eqb (t .kind) k) (At (t .end)) (Refused (Misfit (t .place)))
+
+-- whether the next token is of the kind k
+unfoldable pub ahead : List ℕ → Status → ℕ → Bool
+ahead s (Refused f) k = false
+ahead s (At p) k = eqb (token-at s p .kind) k
+
+abbrev pub no-name-read : Fault → NameRead
+no-name-read f = record { status = Refused f; name = no-name }
+
+-- a token that has to be a name, "name 31 bytes" at most
+unfoldable pub name-of : Token → NameRead
+name-of t =
+    cond (eqb (t .kind) kinds.name)
+    (cond (ltb largest-name (t .end - t .place))
+    (no-name-read (NameTooLong (t .place)))
+    (record { status = At (t .end); name = record { place = t .place; len = t .end - t .place } }))
+    (no-name-read (Misfit (t .place)))
+
+-- the next token, which has to be a name
+unfoldable pub name-next : List ℕ → Status → NameRead
+name-next s (Refused f) = no-name-read f
+name-next s (At p) = name-of (token-at s p)

@@ -1,0 +1,86 @@
+-- The loop ends after the items that are shown.
+use borrow.Author.Needs.{needs}
+use Prim.Native.Nat.{_-_, _≤_}
+use Rattle.reader_print.proofs.edges.Statement.{statement}
+use Rattle.reader_print.proofs.edges.Tie as tie
+
+abbrev Inv-loop : tie.InvT-loop
+Inv-loop t i₀ t8 t9 i = i ≤ 4
+
+abbrev μ-loop : tie.MeasureT-loop
+μ-loop t i₀ t8 t9 i = 4 - i
+
+loop-holds : tie.Need-loop-holds Inv-loop μ-loop
+loop-holds c = search needs
+
+returns : tie.Need-returns Inv-loop μ-loop
+returns c = search needs
+
+mul-e : tie.Need-mul-e Inv-loop μ-loop
+mul-e c = search needs
+
+element-copy-out-e : tie.Need-element-copy-out-e Inv-loop μ-loop
+element-copy-out-e c = search needs
+
+slice-aggregate-write-all : tie.Need-slice-aggregate-write-all Inv-loop μ-loop
+slice-aggregate-write-all c = search needs
+
+write-all-requires : tie.Need-write-all-requires Inv-loop μ-loop
+write-all-requires c κs = search needs
+
+put-requires : tie.Need-put-requires Inv-loop μ-loop
+put-requires c κs = search needs
+
+put-requires-2 : tie.Need-put-requires-2 Inv-loop μ-loop
+put-requires-2 c κs = search needs
+
+label-requires : tie.Need-label-requires Inv-loop μ-loop
+label-requires c κs = search needs
+
+constraint-requires : tie.Need-constraint-requires Inv-loop μ-loop
+constraint-requires c κs = search needs
+
+resets-requires : tie.Need-resets-requires Inv-loop μ-loop
+resets-requires c κs = search needs
+
+slice-aggregate-write-all-2 : tie.Need-slice-aggregate-write-all-2 Inv-loop μ-loop
+slice-aggregate-write-all-2 c = search needs
+
+write-all-requires-2 : tie.Need-write-all-requires-2 Inv-loop μ-loop
+write-all-requires-2 c κs = search needs
+
+add-i : tie.Need-add-i Inv-loop μ-loop
+add-i c = search needs
+
+loop-less : tie.Need-loop-less Inv-loop μ-loop
+loop-less c = search needs
+
+loop-again : tie.Need-loop-again Inv-loop μ-loop
+loop-again c = search needs
+
+returns-2 : tie.Need-returns-2 Inv-loop μ-loop
+returns-2 c = search needs
+
+pub edges-spec : {M : Type 1} → statement M
+edges-spec =
+    tie.close
+    (tie.spec
+    Inv-loop
+    μ-loop
+    loop-holds
+    returns
+    mul-e
+    element-copy-out-e
+    slice-aggregate-write-all
+    write-all-requires
+    put-requires
+    put-requires-2
+    label-requires
+    constraint-requires
+    resets-requires
+    slice-aggregate-write-all-2
+    write-all-requires-2
+    add-i
+    loop-less
+    loop-again
+    returns-2)

@@ -1,0 +1,89 @@
+// The record of a contract text: what reading returns, and the limits of document 01.
+pub const LARGEST_TEXT: usize = 32768;
+
+pub const LARGEST_NAME: usize = 31;
+
+pub const CHANNEL_LIMIT: usize = 16;
+
+pub const CLOCK_LIMIT: usize = 3;
+
+pub const LOCATION_LIMIT: usize = 32;
+
+pub const EDGE_LIMIT: usize = 128;
+
+pub const COMPARISON_LIMIT: usize = 4;
+
+pub const LARGEST_CONSTANT: usize = 1000;
+
+pub const STATE_LIMIT: usize = 4096;
+
+// A name, as the byte place and the length of its declaration.
+pub struct Name {
+    pub place: usize,
+    pub len: usize,
+}
+
+// How the edges use a channel. One that no edge names counts as an output that never happens.
+pub enum Direction {
+    Unused,
+    Input,
+    Output,
+}
+
+pub struct Channel {
+    pub name: Name,
+    pub direction: Direction,
+}
+
+// The sign of a comparison: `<=`, `>=` or `==`.
+pub enum Sign {
+    AtMost,
+    AtLeast,
+    Equal,
+}
+
+// A clock, by its number from 0, a sign and a constant.
+pub struct Comparison {
+    pub clock: usize,
+    pub sign: Sign,
+    pub bound: usize,
+}
+
+// A guard or an invariant: all of the first `count` comparisons.
+pub struct Constraint {
+    pub comparisons: [Comparison; COMPARISON_LIMIT],
+    pub count: usize,
+}
+
+pub struct Location {
+    pub name: Name,
+    pub invariant: Constraint,
+}
+
+// What an edge is labelled with: an input or an output channel, by its number from 1.
+pub enum Label {
+    Input(usize),
+    Output(usize),
+}
+
+// Source and target are locations by their number from 0; `resets` has the clocks that the edge sets to 0.
+pub struct Edge {
+    pub source: usize,
+    pub target: usize,
+    pub guard: Constraint,
+    pub label: Label,
+    pub resets: [bool; CLOCK_LIMIT],
+}
+
+// The first `.._count` items of each list are those of the text, in its order; the rest is filling.
+pub struct Text {
+    pub channels: [Channel; CHANNEL_LIMIT],
+    pub channel_count: usize,
+    pub clocks: [Name; CLOCK_LIMIT],
+    pub clock_count: usize,
+    pub locations: [Location; LOCATION_LIMIT],
+    pub location_count: usize,
+    pub init: usize,
+    pub edges: [Edge; EDGE_LIMIT],
+    pub edge_count: usize,
+}

@@ -1,0 +1,58 @@
+-- `digit_end` is where `past` ends: what is passed so far does not change it.
+use borrow.Author.Needs.{needs}
+use borrow.Author.Tests.{not-true, not-false}
+use native.Mathlib.Omega.{arith}
+use Prim.Native.Nat.{_-_}
+use mathlib.Core.Path.{_≡_, sym, _∙_}
+use lib.ListN.{length}
+use Rattle.reader_tokens.specs.Scan.{is-digit, past}
+use Rattle.reader_tokens.proofs.Scan.{past-yes, past-no, past-end}
+use Rattle.reader_tokens.proofs.digit_end.Statement.{statement}
+use Rattle.reader_tokens.proofs.digit_end.Tie as tie
+
+abbrev Inv-loop : tie.InvT-loop
+Inv-loop s at i₀ i = past is-digit s i ≡ past is-digit s at
+
+abbrev μ-loop : tie.MeasureT-loop
+μ-loop s at i₀ i = length s - i
+
+loop-holds : tie.Need-loop-holds Inv-loop μ-loop
+loop-holds c = search needs
+
+shared-slice-read-is-digit : tie.Need-shared-slice-read-is-digit Inv-loop μ-loop
+shared-slice-read-is-digit c = search needs
+
+is-digit-requires : tie.Need-is-digit-requires Inv-loop μ-loop
+is-digit-requires c κs = search needs
+
+returns : tie.Need-returns Inv-loop μ-loop
+returns c = sym (past-no is-digit _ (c .before .before .before .before .loop .i) 0 (omega arith) (sym
+    (c .before .is-digit .ensures) ∙ not-true _ (c .if1 .taken))) ∙ c .before .before .before .before .loop .inv
+
+add-i : tie.Need-add-i Inv-loop μ-loop
+add-i c = search needs
+
+loop-less : tie.Need-loop-less Inv-loop μ-loop
+loop-less c = search needs
+
+loop-again : tie.Need-loop-again Inv-loop μ-loop
+loop-again c = sym (past-yes is-digit _ (c .before .before .before .before .loop .i) 0 (omega arith) (sym
+    (c .before .is-digit .ensures) ∙ not-false _ (c .if1 .left))) ∙ c .before .before .before .before .loop .inv
+
+returns-2 : tie.Need-returns-2 Inv-loop μ-loop
+returns-2 c = sym (past-end is-digit _ (c .before .loop .i) (omega arith)) ∙ c .before .loop .inv
+
+pub digit-end-spec : {M : Type 1} → statement M
+digit-end-spec =
+    tie.close
+    (tie.spec
+    Inv-loop
+    μ-loop
+    loop-holds
+    shared-slice-read-is-digit
+    is-digit-requires
+    returns
+    add-i
+    loop-less
+    loop-again
+    returns-2)

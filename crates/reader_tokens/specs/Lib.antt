@@ -1,0 +1,4 @@
+pub mod Scan
+pub mod Kinds
+pub mod Tokens
+pub mod Progress

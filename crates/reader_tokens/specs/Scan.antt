@@ -1,0 +1,59 @@
+-- Bytes of a text, and runs of them.
+use mathlib.Core.Bool.{Bool, true, false, cond, _||_, _&&_}
+use mathlib.Core.List.{List, [], _∷_}
+use Prim.Native.Nat.{ℕ, zero, suc, _+_, _*_, _-_}
+use Prim.Native.Char.{Char, code}
+use lib.Dec.{eqb, leb}
+use lib.ListN.{drop}
+use Rattle.reader_record.specs.Limits.{largest-constant}
+
+-- "Space, tab, CR and LF may stand between tokens"
+unfoldable pub is-space : ℕ → Bool
+is-space b = eqb b (code " ") || (eqb b (code "\t") || (eqb b (code "\r") || eqb b (code "\n")))
+
+abbrev pub from-to : Char → Char → ℕ → Bool
+from-to a z b = leb (code a) b && leb b (code z)
+
+-- "a letter or underscore"
+unfoldable pub is-letter : ℕ → Bool
+is-letter b = eqb b (code "_") || (from-to "A" "Z" b || from-to "a" "z" b)
+
+unfoldable pub is-digit : ℕ → Bool
+is-digit b = from-to "0" "9" b
+
+-- what a name goes on with: "then letters, digits, underscores"
+unfoldable pub is-part : ℕ → Bool
+is-part b = is-letter b || is-digit b
+
+-- how many items at the front pass the test
+unfoldable pub run : {A : Type 0} → (A → Bool) → List A → ℕ
+run p [] = 0
+run p (b ∷ s) = let n = run p s in cond (p b) (suc n) 0
+
+-- the first place at or after `at` whose item fails the test
+unfoldable pub past : {A : Type 0} → (A → Bool) → List A → ℕ → ℕ
+past p s at = at + run p (drop at s)
+
+-- the number a with the digit b after it
+abbrev pub with-digit : ℕ → ℕ → ℕ
+with-digit a b = a * 10 + (b - code "0")
+
+-- the number that the digits at the front are, read on from a: of any size
+unfoldable pub value : ℕ → List ℕ → ℕ
+value a [] = a
+value a (b ∷ s) = let v = value (with-digit a b) s in cond (is-digit b) v a
+
+-- n where it is no larger than the largest constant, else one more than that: what the code keeps of a numeral's value
+unfoldable pub capped : ℕ → ℕ
+capped n = cond (leb n largest-constant) n (suc largest-constant)
+
+-- the first n bytes are there in both, and equal
+unfoldable pub agree : ℕ → List ℕ → List ℕ → Bool
+agree zero x y = true
+agree (suc n) [] y = false
+agree (suc n) (a ∷ x) [] = false
+agree (suc n) (a ∷ x) (b ∷ y) = let r = agree n x y in cond (eqb a b) r false
+
+-- the m bytes at the front of x are the n bytes at the front of y
+unfoldable pub same : ℕ → List ℕ → ℕ → List ℕ → Bool
+same m x n y = let r = agree m x y in cond (eqb m n) r false

@@ -1,0 +1,87 @@
+-- The token at or after a place: "the longest token counts".
+use mathlib.Core.Bool.{Bool, true, false, cond, _||_, _&&_}
+use mathlib.Core.List.{List, [], _∷_}
+use Prim.Native.Nat.{ℕ, suc, _+_, _-_}
+use Prim.Native.Char.{Char, code}
+use Prim.Native.String.{String}
+use lib.Dec.{eqb, leb, ltb}
+use lib.ListN.{length, drop, getD}
+use Rattle.reader_tokens.specs.Scan.{is-space, is-letter, is-digit, is-part, past, same}
+use Rattle.reader_tokens.specs.Kinds.{end, stray, name, numeral, broadcast, comma, semicolon, opens, closes, left-paren, right-paren, input, output, becomes, pair}
+use Rattle.reader_tokens.specs.declared.Token.{Token}
+
+-- the bytes of a quoted text
+abbrev pub bytes : String → List ℕ
+bytes String.[] = []
+bytes (String._∷_ c s) = code c ∷ bytes s
+
+-- the words of document 01 in the order of their kinds: "the words above are not names"
+unfoldable pub words : List (List ℕ)
+words =
+    bytes "broadcast"
+    ∷ bytes "chan"
+    ∷ bytes "process"
+    ∷ bytes "clock"
+    ∷ bytes "state"
+    ∷ bytes "init"
+    ∷ bytes "trans"
+    ∷ bytes "system"
+    ∷ bytes "guard"
+    ∷ bytes "sync"
+    ∷ bytes "assign"
+    ∷ []
+
+-- the kind of the n bytes at the front of x, where the words from the kind k on are left
+unfoldable pub word-from : ℕ → List (List ℕ) → ℕ → List ℕ → ℕ
+word-from k [] n x = name
+word-from k (w ∷ ws) n x = let r = word-from (suc k) ws n x in cond (same n x (length w) w) k r
+
+-- a word or a name
+unfoldable pub word-kind : ℕ → List ℕ → ℕ
+word-kind n x = word-from broadcast words n x
+
+abbrev pub are : Char → Char → ℕ → ℕ → Bool
+are x y a b = eqb a (code x) && eqb b (code y)
+
+-- the marks of two bytes
+unfoldable pub is-pair : ℕ → ℕ → Bool
+is-pair a b = are "-" ">" a b || (are "<" "=" a b || (are ">" "=" a b || (are "=" "=" a b || are "&" "&" a b)))
+
+-- the marks of one byte
+unfoldable pub is-single : ℕ → Bool
+is-single a =
+    eqb a comma
+    || (eqb a semicolon
+    || (eqb a opens
+    || (eqb a closes
+    || (eqb a left-paren || (eqb a right-paren || (eqb a input || (eqb a output || eqb a becomes)))))))
+
+-- the kind of the mark that starts with the byte a, before the byte b: two bytes before one
+unfoldable pub mark-kind : ℕ → ℕ → ℕ
+mark-kind a b = cond (is-pair a b) (pair a b) (cond (is-single a) a stray)
+
+-- how many bytes a mark has
+unfoldable pub mark-length : ℕ → ℕ
+mark-length k = cond (ltb k 256) 1 2
+
+unfoldable pub mark-at : List ℕ → ℕ → Token
+mark-at s p =
+    let k = mark-kind (getD s p 0) (getD s (p + 1) 0) in
+    record { kind = k; place = p; end = p + mark-length k }
+
+unfoldable pub word-at : List ℕ → ℕ → Token
+word-at s p = let e = past is-part s p in record { kind = word-kind (e - p) (drop p s); place = p; end = e }
+
+-- the token that starts at p: a word or a name, a numeral, a mark; past the last byte it is the end
+unfoldable pub token-from : List ℕ → ℕ → Token
+token-from s p =
+    let word = word-at s p in
+    let number : Token = record { kind = numeral; place = p; end = past is-digit s p } in
+    let mark = mark-at s p in
+    cond (ltb p (length s))
+    (cond (is-letter (getD s p 0)) word (cond (is-digit (getD s p 0)) number mark))
+    (record { kind = end; place = p; end = p })
+
+-- the token at or after `at`, past white space
+unfoldable pub token-at : List ℕ → ℕ → Token
+token-at s at = token-from s (past is-space s at)

@@ -1,0 +1,426 @@
+// Tokens of a contract text, read at a byte place.
+ghost use mathlib.Core.Path.{_≡_};
+ghost use mathlib.Core.Bool.{Bool, true};
+ghost use Prim.Native.Nat.{ℕ, suc, _+_, _-_, _*_, _≤_, _<_};
+ghost use lib.ListN.{length, getD, drop};
+ghost use Rattle.reader_record.specs.Limits.{largest-constant};
+ghost use Rattle.reader_tokens.specs.Scan.{is-space, is-letter, is-digit, is-part, past, with-digit, value, capped, agree, same};
+ghost use Rattle.reader_tokens.specs.Tokens.{mark-kind, is-single, mark-at, word-kind, word-at, token-from, token-at};
+use reader_record::LARGEST_CONSTANT;
+
+// The kinds of token. A mark of one byte is its byte, one of two is 256 times the first and the second.
+pub const END: usize = 0;
+
+pub const STRAY: usize = 1;
+
+pub const NAME: usize = 2;
+
+pub const NUMERAL: usize = 3;
+
+pub const BROADCAST: usize = 4;
+
+pub const CHAN: usize = 5;
+
+pub const PROCESS: usize = 6;
+
+pub const CLOCK: usize = 7;
+
+pub const STATE: usize = 8;
+
+pub const INIT: usize = 9;
+
+pub const TRANS: usize = 10;
+
+pub const SYSTEM: usize = 11;
+
+pub const GUARD: usize = 12;
+
+pub const SYNC: usize = 13;
+
+pub const ASSIGN: usize = 14;
+
+pub const COMMA: usize = b',' as usize;
+
+pub const SEMICOLON: usize = b';' as usize;
+
+pub const OPEN: usize = b'{' as usize;
+
+pub const CLOSE: usize = b'}' as usize;
+
+pub const LEFT: usize = b'(' as usize;
+
+pub const RIGHT: usize = b')' as usize;
+
+pub const INPUT: usize = b'?' as usize;
+
+pub const OUTPUT: usize = b'!' as usize;
+
+pub const BECOMES: usize = b'=' as usize;
+
+pub const ARROW: usize = 256 * b'-' as usize + b'>' as usize;
+
+pub const AT_MOST: usize = 256 * b'<' as usize + b'=' as usize;
+
+pub const AT_LEAST: usize = 256 * b'>' as usize + b'=' as usize;
+
+pub const EQUAL: usize = 256 * b'=' as usize + b'=' as usize;
+
+pub const BOTH: usize = 256 * b'&' as usize + b'&' as usize;
+
+const DIGIT_ZERO: usize = b'0' as usize;
+
+// What `number_at` answers for every number above the largest constant.
+pub const OVER_CONSTANT: usize = LARGEST_CONSTANT + 1;
+
+// A token: its kind, the place of its first byte and the place after its last.
+pub struct Token {
+    pub kind: usize,
+    pub place: usize,
+    pub end: usize,
+}
+
+fn is_space(b: u8) -> bool
+    ensures { λ r. ⌜ r ≡ is-space b ⌝ }
+{
+    if b == b' ' {
+        return true;
+    }
+    if b == b'\t' {
+        return true;
+    }
+    if b == b'\r' {
+        return true;
+    }
+    b == b'\n'
+}
+
+fn is_letter(b: u8) -> bool
+    ensures { λ r. ⌜ r ≡ is-letter b ⌝ }
+{
+    if b == b'_' {
+        return true;
+    }
+    if b < b'A' {
+        return false;
+    }
+    if b <= b'Z' {
+        return true;
+    }
+    if b < b'a' {
+        return false;
+    }
+    b <= b'z'
+}
+
+fn is_digit(b: u8) -> bool
+    ensures { λ r. ⌜ r ≡ is-digit b ⌝ }
+{
+    if b < b'0' {
+        return false;
+    }
+    b <= b'9'
+}
+
+fn is_part(b: u8) -> bool
+    ensures { λ r. ⌜ r ≡ is-part b ⌝ }
+{
+    if is_letter(b) {
+        return true;
+    }
+    is_digit(b)
+}
+
+fn space_end(s: &[u8], at: usize) -> usize
+    ensures { λ r. ⌜ r ≡ past is-space (now (s .entry)) at ⌝ }
+{
+    let mut i = at;
+    while i < s.len() {
+        if !is_space(s[i]) {
+            return i;
+        }
+        i += 1;
+    }
+    i
+}
+
+fn part_end(s: &[u8], at: usize) -> usize
+    ensures { λ r. ⌜ r ≡ past is-part (now (s .entry)) at ⌝ }
+{
+    let mut i = at;
+    while i < s.len() {
+        if !is_part(s[i]) {
+            return i;
+        }
+        i += 1;
+    }
+    i
+}
+
+fn digit_end(s: &[u8], at: usize) -> usize
+    ensures { λ r. ⌜ r ≡ past is-digit (now (s .entry)) at ⌝ }
+{
+    let mut i = at;
+    while i < s.len() {
+        if !is_digit(s[i]) {
+            return i;
+        }
+        i += 1;
+    }
+    i
+}
+
+// Whether the first n bytes from p on in s and from q on in t are there and equal.
+fn agrees(s: &[u8], p: usize, t: &[u8], q: usize, n: usize) -> bool
+    ensures { λ r. ⌜ r ≡ agree n (drop p (now (s .entry))) (drop q (now (t .entry))) ⌝ }
+{
+    let mut i = p;
+    let mut j = q;
+    let mut left = n;
+    while 0 < left {
+        if s.len() <= i {
+            return false;
+        }
+        if t.len() <= j {
+            return false;
+        }
+        if s[i] != t[j] {
+            return false;
+        }
+        i += 1;
+        j += 1;
+        left -= 1;
+    }
+    true
+}
+
+// Whether the m bytes from p on in s are the n bytes from q on in t.
+pub fn is_same(s: &[u8], p: usize, m: usize, t: &[u8], q: usize, n: usize) -> bool
+    ensures { λ r. ⌜ r ≡ same m (drop p (now (s .entry))) n (drop q (now (t .entry))) ⌝ }
+{
+    if m != n {
+        return false;
+    }
+    agrees(s, p, t, q, m)
+}
+
+// The kind of the n bytes from p on: of a word, or of a name.
+fn word_kind(s: &[u8], p: usize, n: usize) -> usize
+    ensures { λ r. ⌜ r ≡ word-kind n (drop p (now (s .entry))) ⌝ }
+{
+    if is_same(s, p, n, b"broadcast", 0, 9) {
+        return BROADCAST;
+    }
+    if is_same(s, p, n, b"chan", 0, 4) {
+        return CHAN;
+    }
+    if is_same(s, p, n, b"process", 0, 7) {
+        return PROCESS;
+    }
+    if is_same(s, p, n, b"clock", 0, 5) {
+        return CLOCK;
+    }
+    if is_same(s, p, n, b"state", 0, 5) {
+        return STATE;
+    }
+    if is_same(s, p, n, b"init", 0, 4) {
+        return INIT;
+    }
+    if is_same(s, p, n, b"trans", 0, 5) {
+        return TRANS;
+    }
+    if is_same(s, p, n, b"system", 0, 6) {
+        return SYSTEM;
+    }
+    if is_same(s, p, n, b"guard", 0, 5) {
+        return GUARD;
+    }
+    if is_same(s, p, n, b"sync", 0, 4) {
+        return SYNC;
+    }
+    if is_same(s, p, n, b"assign", 0, 6) {
+        return ASSIGN;
+    }
+    NAME
+}
+
+fn is_single(a: u8) -> bool
+    ensures { λ r. ⌜ r ≡ is-single a ⌝ }
+{
+    if a == b',' {
+        return true;
+    }
+    if a == b';' {
+        return true;
+    }
+    if a == b'{' {
+        return true;
+    }
+    if a == b'}' {
+        return true;
+    }
+    if a == b'(' {
+        return true;
+    }
+    if a == b')' {
+        return true;
+    }
+    if a == b'?' {
+        return true;
+    }
+    if a == b'!' {
+        return true;
+    }
+    a == b'='
+}
+
+fn wide(b: u8) -> usize
+    ensures { λ r. ⌜ r ≡ b ⌝ }
+{
+    b as usize
+}
+
+// The kind of the mark that starts with the byte a, before the byte b.
+fn mark_kind(a: u8, b: u8) -> usize
+    ensures { λ r. ⌜ r ≡ mark-kind a b ⌝ }
+{
+    if a == b'-' {
+        if b == b'>' {
+            return ARROW;
+        }
+        return STRAY;
+    }
+    if a == b'<' {
+        if b == b'=' {
+            return AT_MOST;
+        }
+        return STRAY;
+    }
+    if a == b'>' {
+        if b == b'=' {
+            return AT_LEAST;
+        }
+        return STRAY;
+    }
+    if a == b'=' {
+        if b == b'=' {
+            return EQUAL;
+        }
+        return BECOMES;
+    }
+    if a == b'&' {
+        if b == b'&' {
+            return BOTH;
+        }
+        return STRAY;
+    }
+    if is_single(a) {
+        return wide(a);
+    }
+    STRAY
+}
+
+// The byte at i, 0 past the end.
+fn byte_at(s: &[u8], i: usize) -> u8
+    ensures { λ r. ⌜ r ≡ getD (now (s .entry)) i 0 ⌝ }
+{
+    if i < s.len() {
+        return s[i];
+    }
+    0
+}
+
+fn mark_at(s: &[u8], p: usize) -> Token
+    requires { ⌜ p < length (now s) ⌝ }
+    ensures { λ r. ⌜ r ≡ mark-at (now (s .entry)) p ⌝ }
+{
+    let a = byte_at(s, p);
+    let b = byte_at(s, p + 1);
+    let k = mark_kind(a, b);
+    if k < 256 {
+        return Token {
+            kind: k,
+            place: p,
+            end: p + 1,
+        };
+    }
+    Token {
+        kind: k,
+        place: p,
+        end: p + 2,
+    }
+}
+
+fn word_at(s: &[u8], p: usize) -> Token
+    ensures { λ r. ⌜ r ≡ word-at (now (s .entry)) p ⌝ }
+{
+    let e = part_end(s, p);
+    let k = word_kind(s, p, e - p);
+    Token {
+        kind: k,
+        place: p,
+        end: e,
+    }
+}
+
+fn token_from(s: &[u8], p: usize) -> Token
+    ensures { λ r. ⌜ r ≡ token-from (now (s .entry)) p ⌝ }
+{
+    if p < s.len() {
+        let b = s[p];
+        if is_letter(b) {
+            return word_at(s, p);
+        }
+        if is_digit(b) {
+            let e = digit_end(s, p);
+            return Token {
+                kind: NUMERAL,
+                place: p,
+                end: e,
+            };
+        }
+        return mark_at(s, p);
+    }
+    Token {
+        kind: END,
+        place: p,
+        end: p,
+    }
+}
+
+// The token at or after `at`.
+pub fn token_at(s: &[u8], at: usize) -> Token
+    ensures { λ r. ⌜ r ≡ token-at (now (s .entry)) at ⌝ }
+{
+    let p = space_end(s, at);
+    token_from(s, p)
+}
+
+// The number v with the digit b after it, OVER_CONSTANT for any above the largest constant.
+fn with_digit(v: usize, b: u8) -> usize
+    requires { ⌜ (v ≤ suc largest-constant) × (is-digit b ≡ true) ⌝ }
+    ensures { λ r. ⌜ r ≡ capped (with-digit v b) ⌝ }
+{
+    let d = wide(b);
+    let n = v * 10 + (d - DIGIT_ZERO);
+    if n <= LARGEST_CONSTANT {
+        return n;
+    }
+    OVER_CONSTANT
+}
+
+// The number that the digits from p on are, OVER_CONSTANT for any above the largest constant.
+pub fn number_at(s: &[u8], p: usize) -> usize
+    ensures { λ r. ⌜ r ≡ capped (value 0 (drop p (now (s .entry)))) ⌝ }
+{
+    let mut v: usize = 0;
+    let mut i = p;
+    while i < s.len() {
+        let b = s[i];
+        if !is_digit(b) {
+            return v;
+        }
+        v = with_digit(v, b);
+        i += 1;
+    }
+    v
+}

@@ -1,0 +1,47 @@
+-- Document 01's safe-state operation: what it answers, and what keep holds afterwards.
+use mathlib.Core.Bool.{Bool, true, false}
+use mathlib.Core.List.{List}
+use Prim.Native.Nat.{ℕ}
+use lib.Dec.{ltb}
+use lib.ListN.{length}
+use Rattle.systems.specs.Tests.{at, ones}
+use Rattle.refusals.specs.Refusals.{keep-too-short}
+use Rattle.reader_record.specs.declared.Text.{Text}
+use Rattle.clocks_bits.specs.Packed.{bytes, packed}
+use Rattle.clocks.specs.States.{state-count, start-state}
+use Rattle.clocks.specs.Safe.{safe-states}
+use Rattle.clocks_read.specs.declared.ReadAnswer.{ReadAnswer}
+use Rattle.clocks_read.specs.declared.ReadAnswer.the-variants as read
+use Rattle.clocks_read.specs.declared.Reading.{Reading}
+use Rattle.clocks_read.specs.Reading.{read-outcome}
+use Rattle.safe_states.specs.declared.SafeAnswer.{SafeAnswer}
+use Rattle.safe_states.specs.declared.SafeAnswer.the-variants.{Found, Refused}
+
+-- everything that is promised
+pub record Outcome : Type 0 where
+  pub answer : SafeAnswer
+  pub keep : List ℕ
+
+-- a refusal leaves keep untouched
+abbrev pub refused : SafeAnswer → List ℕ → Outcome
+refused a k = record { answer = a; keep = k }
+
+-- the count, whether the start is safe, and one bit a state, the later bytes untouched
+unfoldable pub found-outcome : Text → List ℕ → Outcome
+found-outcome t k = record {
+  answer = Found (ones (safe-states t)) (at (safe-states t) (start-state t));
+  keep = packed (state-count t) (safe-states t) k;
+}
+
+-- code 13: keep too short
+unfoldable pub kept-outcome : Text → List ℕ → Outcome
+kept-outcome t k = elim (ltb (length k) (bytes (state-count t)))
+    [ true ↦ refused (Refused (keep-too-short (bytes (state-count t)))) k | false ↦ found-outcome t k ]
+
+-- codes 1 to 11 come before it
+unfoldable pub answered : ReadAnswer → Text → List ℕ → Outcome
+answered read.Accepted t k = kept-outcome t k
+answered (read.Refused f) t k = refused (Refused f) k
+
+unfoldable pub safe-outcome : List ℕ → List ℕ → Outcome
+safe-outcome s k = answered (read-outcome s .answer) (read-outcome s .text) k

@@ -1,0 +1,140 @@
+-- The ends of the code's paths.
+use mathlib.Core.Path.{_≡_, refl, sym, ap, _∙_}
+use mathlib.Core.Bool.{Bool, true, false}
+use mathlib.Core.List.{List}
+use Prim.Native.Nat.{ℕ, _+_, _/_, _≤_, _<_}
+use native.Mathlib.Omega.{arith}
+use lib.Dec.{ltb}
+use lib.ListN.{length}
+use borrow.Author.Tests.{lt-ltb, le-ltb}
+use Rattle.systems.specs.Tests.{at, ones}
+use Rattle.systems.specs.Finite as finite
+use Rattle.refusals.specs.declared.Refusal.{Refusal}
+use Rattle.refusals.specs.Refusals.{keep-too-short}
+use Rattle.reader_record.specs.declared.Text.{Text}
+use Rattle.clocks_bits.specs.Bits.{tab-from, bit-at, written}
+use Rattle.clocks_bits.specs.Packed.{bytes, Packed, packed, packed-bit, packed-length, Bitmap}
+use Rattle.clocks_bits.specs.Moves.{Bounded}
+use Rattle.clocks.specs.States.{state-count, state-limit, start-state, input, table-entry, table-size, table-limit, invariants, bytes-limit}
+use Rattle.clocks.specs.Safe.{safe-states}
+use Rattle.clocks.specs.Accepted.{Accepted}
+use Rattle.clocks.specs.Judgement.{judgement-few}
+use Rattle.clocks.specs.Contract.{system}
+use Rattle.clocks.specs.Encoded.{table-bounded, table-encoded, bits-bitmap, bits-start, safe-states-same}
+use Rattle.clocks_safe.specs.Settle.{Safe-answer, length-table, length-stage}
+use Rattle.clocks_states.specs.Counts.{times-bound}
+use Rattle.clocks_read.specs.declared.ReadAnswer.the-variants as read
+use Rattle.clocks_read.specs.declared.Reading.{Reading}
+use Rattle.clocks_read.specs.Reading.{read-outcome, Loading, load-outcome}
+use Rattle.clocks_read.specs.Laws.{read-accepted, load-reading, load-moves, load-holds}
+use Rattle.clocks_read.specs.Paths.{loading}
+use Rattle.safe_states.specs.declared.SafeAnswer.the-variants.{Found, Refused}
+use Rattle.safe_states.specs.Outcome.{Outcome, refused, found-outcome, kept-outcome, answered, safe-outcome}
+
+-- the slices are filled for the accepted text t, and keep is long enough
+pub record Ready (t : Text) (n : ℕ) (moves holds keep : List ℕ) : Type 0 where
+  pub accepted : Accepted t
+  pub count : n ≡ state-count t
+  pub over : List ℕ
+  pub room : table-size t ≤ length over
+  pub moves-are : moves ≡ written (table-entry t) (table-size t) over
+  pub under : List ℕ
+  pub space : bytes (state-count t) ≤ length under
+  pub holds-are : holds ≡ packed (state-count t) (invariants t) under
+  pub long : bytes (state-count t) ≤ length keep
+
+length-invariants : (t : Text) → length (invariants t) ≡ state-count t
+unfolding invariants
+length-invariants t = length-table (state-count t) _
+
+length-safe : (t : Text) → length (safe-states t) ≡ state-count t
+unfolding safe-states
+length-safe t = length-stage _ (invariants t) (state-count t) ∙ length-invariants t
+
+module _ {t : Text} {n : ℕ} {moves holds keep : List ℕ} (R : Ready t n moves holds keep) where
+  pub ready-bounded : Bounded n (t .«channel_count» + 1) moves
+  ready-bounded = rw (R .count) (table-bounded t (R .accepted) (R .over) moves (R .room) (R .moves-are))
+
+  pub ready-bitmap : Bitmap n holds
+  ready-bitmap = rw (R .count) (bits-bitmap t (R .accepted) (R .under) holds (R .space) (R .holds-are) (length-invariants t))
+
+  pub ready-few : state-count t ≤ state-limit
+  ready-few = judgement-few t (R .accepted .clean)
+
+  -- what the operation on slices gives
+  pub ready-safe : (inputs : List Bool) (after : List ℕ) (r : ℕ) → inputs ≡ tab-from (input t) 0 17 → Safe-answer holds moves inputs n (t .«channel_count» + 1) keep after r
+      → (after ≡ packed (state-count t) (safe-states t) keep) × (r ≡ ones (safe-states t))
+  ready-safe inputs after r e S =
+      let (a, b) = S _ (system t (R .accepted)) (rw (R .count) (table-encoded t (R .accepted) (R .over) moves (R .room) (R .moves-are) inputs e))
+      (rw (R .count) (bits-start t (R .accepted) (R .under) holds (R .space) (R .holds-are) (length-invariants t))) in
+      rw (safe-states-same t (R .accepted)) (a ∙ ap (λ (k : ℕ). packed k (finite.safe-states (system t (R .accepted))) keep) (R .count), b)
+
+  start-in : start-state t < state-count t
+  start-in = unfold system in system t (R .accepted) .start-state .0
+
+  module _ (after : List ℕ) (e : after ≡ packed (state-count t) (safe-states t) keep) where
+    safe-packed : Packed (state-count t) (safe-states t) keep after
+    safe-packed = record { long = length-safe t; room = R .long; is = e }
+
+    pub ready-start : (s : ℕ) → s ≡ start-state t → s / 8 < length after
+    ready-start s q = omega (arith, start-in, packed-length safe-packed, R .long)
+
+    pub ready-found : (s r : ℕ) (b : Bool) → s ≡ start-state t → r ≡ ones (safe-states t) → b ≡ bit-at after s → refused (Found r b) after ≡ found-outcome t keep
+    unfolding found-outcome
+    ready-found s r b q c f = rw (c, f ∙ ap (bit-at after) q ∙ packed-bit safe-packed (start-state t) start-in, e)
+
+-- the paths after the text is read and the slices are filled
+module _ (s k m h : List ℕ) (r : Reading) (m′ h′ : List ℕ) (e : loading r m′ h′ ≡ load-outcome s m h) where
+  reading-is : r ≡ read-outcome s
+  reading-is = ap (λ (l : Loading). l .reading) e ∙ load-reading s m h
+
+  pub safe-refused : (f : Refusal) → r .answer ≡ read.Refused f → refused (Refused f) k ≡ safe-outcome s k
+  unfolding safe-outcome answered
+  safe-refused f a = rw (sym (ap (λ (x : Reading). x .answer) reading-is) ∙ a)
+
+  module _ (a : r .answer ≡ read.Accepted) where
+    is-accepted : read-outcome s .answer ≡ read.Accepted
+    is-accepted = sym (ap (λ (x : Reading). x .answer) reading-is) ∙ a
+
+    text-is : r .text ≡ read-outcome s .text
+    text-is = ap (λ (x : Reading). x .text) reading-is
+
+    states-are : r .states ≡ state-count (read-outcome s .text)
+    states-are = ap (λ (x : Reading). x .states) reading-is ∙ read-accepted s is-accepted .states
+
+    pub few-states : r .states ≤ state-limit
+    few-states = omega (arith, states-are, judgement-few (read-outcome s .text) (read-accepted s is-accepted .accepted .clean))
+
+    outcome-is : safe-outcome s k ≡ kept-outcome (read-outcome s .text) k
+    unfolding safe-outcome answered
+    outcome-is = rw is-accepted
+
+    pub safe-short : length k < (r .states + 7) / 8 → refused (Refused (keep-too-short ((r .states + 7) / 8))) k ≡ safe-outcome s k
+    unfolding kept-outcome
+    safe-short l =
+        let q : ltb (length k) (bytes (state-count (read-outcome s .text))) ≡ true = lt-ltb (length k) (bytes (state-count (read-outcome s .text))) (rw states-are at l) in
+        rw (outcome-is, states-are) (rw (q, kept-outcome))
+
+    pub safe-found : (r .states + 7) / 8 ≤ length k → (o : Outcome) → o ≡ found-outcome (r .text) k → o ≡ safe-outcome s k
+    unfolding kept-outcome
+    safe-found l o f =
+        let q : ltb (length k) (bytes (state-count (read-outcome s .text))) ≡ false = le-ltb (length k) (bytes (state-count (read-outcome s .text))) (rw states-are at l) in
+        f ∙ ap (λ (t : Text). found-outcome t k) text-is ∙ rw outcome-is (rw (q, kept-outcome))
+
+    pub safe-ready : table-limit ≤ length m → bytes-limit ≤ length h → (r .states + 7) / 8 ≤ length k → Ready (r .text) (r .states) m′ h′ k
+    unfolding table-size
+    safe-ready l n p =
+        let w = read-accepted s is-accepted .accepted in
+        let t = read-outcome s .text in
+        let c = judgement-few t (w .clean) in
+        rw (text-is, states-are) (record {
+          accepted = w;
+          count = refl;
+          over = m;
+          room = omega (arith, l, times-bound (state-count t) (t .«channel_count» + 1) 4096 17 c (omega (arith, w .formed .channels)));
+          moves-are = ap (λ (x : Loading). x .moves) e ∙ load-moves s m h is-accepted;
+          under = h;
+          space = omega (arith, n, c);
+          holds-are = ap (λ (x : Loading). x .holds) e ∙ load-holds s m h is-accepted;
+          long = rw states-are at p;
+        })

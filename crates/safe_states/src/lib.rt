@@ -1,0 +1,58 @@
+// Document 01's safe-state operation.
+use clocks_read::ReadAnswer;
+use reader_record::Text;
+use refusals::Refusal;
+ghost use mathlib.Core.Path.{_≡_};
+ghost use Prim.Native.Nat.{ℕ, _≤_};
+ghost use lib.ListN.{length};
+ghost use Rattle.reader_record.specs.Formed.{Well-formed};
+ghost use Rattle.clocks.specs.States.{state-count, state-limit, start-state};
+ghost use Rattle.safe_states.specs.Outcome.{Outcome, found-outcome, safe-outcome};
+ghost use Rattle.safe_states.specs.Paths.{Ready};
+
+// The count of the safe states and whether the start is one, or what is refused.
+pub enum SafeAnswer {
+    Found(usize, bool),
+    Refused(Refusal),
+}
+
+// The safe states of an accepted text whose slices are filled, with a keep that is long enough.
+fn found(t: Text, n: usize, moves: &[u16], holds: &[u8], keep: &mut [u8]) -> SafeAnswer
+    requires { ⌜ Ready t n (now moves) (now holds) (now keep) ⌝ }
+    ensures { λ r. ⌜ _≡_ {A = Outcome} (record { answer = r; keep = now (keep .exit) }) (found-outcome t (now (keep .entry))) ⌝ }
+{
+    let inputs = clocks_states::inputs_of(t);
+    let steps = t.channel_count + 1;
+    let count = clocks_safe::safe(&mut *keep, holds, moves, &inputs, n, steps);
+    let start = clocks_states::start_of(t);
+    let safe = clocks_bits::get(keep, start);
+    SafeAnswer::Found(count, safe)
+}
+
+// Writes the bits of the safe states into keep, state 0 in the high bit of byte 0.
+pub fn safe_states(text: &[u8], keep: &mut [u8]) -> SafeAnswer
+    ensures { λ r. ⌜ _≡_ {A = Outcome} (record { answer = r; keep = now (keep .exit) }) (safe-outcome (now (text .entry)) (now (keep .entry))) ⌝ }
+{
+    let mut moves = clocks_read::no_moves();
+    let mut holds = clocks_read::no_states();
+    let reading = clocks_read::load(text, &mut moves, &mut holds);
+    let answer = reading.answer;
+    match answer {
+        ReadAnswer::Refused(f) => SafeAnswer::Refused(f),
+        ReadAnswer::Accepted => {
+            let n = reading.states;
+            let need = (n + 7) / 8;
+            if keep.len() < need {
+                let f = Refusal {
+                    code: 13,
+                    file: 0,
+                    p: need,
+                    q: 0,
+                };
+                return SafeAnswer::Refused(f);
+            }
+            let t = reading.text;
+            found(t, n, &moves, &holds, keep)
+        }
+    }
+}

@@ -1,0 +1,4 @@
+pub mod Exact
+pub mod Fault
+pub mod Judged
+pub mod Loops

@@ -1,0 +1,138 @@
+ghost use mathlib.Core.Path.{_≡_};
+ghost use mathlib.Core.Bool.{true, false};
+ghost use Prim.Native.Nat.{_+_, _-_, _*_, _/_, _≤_, _<_};
+ghost use lib.ListN.{length, set};
+ghost use Rattle.clocks_bits.specs.Moves.{Bounded};
+ghost use Rattle.clocks_bits.specs.Packed.{bytes};
+ghost use Rattle.tables_rows.specs.Limits.{most-states, no-move};
+ghost use Rattle.tables_rows.specs.Raster.{part};
+ghost use Rattle.tables_check.specs.Fault.{ok-of, first-bad, fault-at, table-from};
+
+// A pair that is set: fine, or with a state that may not be there, or breaking a rule at a step.
+pub enum Fault {
+    Fine,
+    NotAllowed,
+    Broken(usize),
+}
+
+pub enum Found {
+    Passed,
+    NotAllowedAt(usize, usize),
+    BrokenAt(usize, usize, usize),
+}
+
+fn step_ok(raster: &[u8], n: usize, w: usize, u: usize, v: usize) -> bool
+    requires { ⌜ (n ≤ most-states) × ((w ≤ most-states) × (((u ≡ no-move → ⊥) → u < n) × (((v ≡ no-move → ⊥) → v < w) × (n * bytes w ≤ length (now raster))))) ⌝ }
+    ensures { λ r. ⌜ r ≡ ok-of w (now (raster .entry)) u v ⌝ }
+{
+    if u == tables_rows::NO_MOVE {
+        return true;
+    }
+    if v == tables_rows::NO_MOVE {
+        return false;
+    }
+    tables_rows::is_set(raster, n, w, u, v)
+}
+
+// The least step at which the pair (s, t) breaks a rule, `steps` if there is none.
+fn first_bad(
+    raster: &[u8],
+    lm: &[u16],
+    rm: &[u16],
+    n: usize,
+    w: usize,
+    steps: usize,
+    s: usize,
+    t: usize,
+) -> usize
+    requires { ⌜ Bounded n steps (now lm) × (Bounded w steps (now rm) × ((s < n) × ((t < w) × (n * bytes w ≤ length (now raster))))) ⌝ }
+    ensures { λ r. ⌜ r ≡ first-bad (now (lm .entry)) (now (rm .entry)) w steps (now (raster .entry)) s t ⌝ }
+{
+    let a = s * steps;
+    let b = t * steps;
+    let mut c: usize = 0;
+    while c < steps {
+        let u = lm[a + c] as usize;
+        let v = rm[b + c] as usize;
+        if !step_ok(raster, n, w, u, v) {
+            return c;
+        }
+        c += 1;
+    }
+    c
+}
+
+// What the pair (s, t) fails at, if it is set; `row` is the left state's row, lent as a part of the raster.
+fn fault_at(
+    row: &[u8],
+    raster: &[u8],
+    keep: &[u8],
+    holds: &[u8],
+    lm: &[u16],
+    rm: &[u16],
+    n: usize,
+    w: usize,
+    steps: usize,
+    s: usize,
+    t: usize,
+) -> Fault
+    requires { ⌜ Bounded n steps (now lm) × (Bounded w steps (now rm) × ((s < n) × ((t < w) × ((n * bytes w ≤ length (now raster)) × ((bytes n ≤ length (now keep)) × ((bytes w ≤ length (now holds)) × ((bytes w ≤ length (now row)) × (now row ≡ part (bytes w) s (now raster))))))))) ⌝ }
+    ensures { λ r. ⌜ r ≡ fault-at (now (lm .entry)) (now (rm .entry)) (now (keep .entry)) (now (holds .entry)) w steps (now (raster .entry)) s t ⌝ }
+{
+    if !clocks_bits::get(row, t) {
+        return Fault::Fine;
+    }
+    if !clocks_bits::get(keep, s) {
+        return Fault::NotAllowed;
+    }
+    if !clocks_bits::get(holds, t) {
+        return Fault::NotAllowed;
+    }
+    let c = first_bad(raster, lm, rm, n, w, steps, s, t);
+    if c < steps {
+        return Fault::Broken(c);
+    }
+    Fault::Fine
+}
+
+// The lowest pair that fails, by row and then column.
+pub fn scan(
+    raster: &[u8],
+    keep: &[u8],
+    holds: &[u8],
+    lm: &[u16],
+    rm: &[u16],
+    n: usize,
+    w: usize,
+    steps: usize,
+) -> Found
+    requires { ⌜ Bounded n steps (now lm) × (Bounded w steps (now rm) × ((n * bytes w ≤ length (now raster)) × ((bytes n ≤ length (now keep)) × (bytes w ≤ length (now holds))))) ⌝ }
+    ensures { λ r. ⌜ r ≡ table-from (fault-at (now (lm .entry)) (now (rm .entry)) (now (keep .entry)) (now (holds .entry)) w steps (now (raster .entry))) w n 0 ⌝ }
+{
+    let b = (w + 7) / 8;
+    let mut s: usize = 0;
+    let found = 'rows: loop {
+        if n <= s {
+            break 'rows Found::Passed;
+        }
+        let a = s * b;
+        let e = a + b;
+        let row = &raster[a..e];
+        let mut t: usize = 0;
+        'columns: while t < w {
+            let f = fault_at(row, raster, keep, holds, lm, rm, n, w, steps, s, t);
+            match f {
+                Fault::Fine => {}
+                Fault::NotAllowed => {
+                    break 'rows Found::NotAllowedAt(s, t);
+                }
+                Fault::Broken(c) => {
+                    break 'rows Found::BrokenAt(c, s, t);
+                }
+            }
+            t += 1;
+        }
+        s += 1;
+    };
+    found
+}

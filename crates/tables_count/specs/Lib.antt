@@ -1,0 +1,3 @@
+pub mod Ones
+pub mod Pairs
+pub mod PairsLaws

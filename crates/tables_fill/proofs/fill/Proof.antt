@@ -1,0 +1,100 @@
+-- fill goes row by row: the first s rows are filled.
+use borrow.Author.Needs.{needs}
+use native.Mathlib.Omega.{arith}
+use mathlib.Core.Path.{_≡_, sym, _∙_, ap, refl}
+use mathlib.Core.List.{List}
+use Prim.Native.Nat.{ℕ, _+_, _-_, _*_, _/_, _%_, _^_, _≤_, _<_}
+use lib.ListN.{length, getD}
+use Rattle.systems.specs.Tests.{at}
+use native.Mathlib.Nat.{mul-le-mul-right}
+use Rattle.clocks_bits.specs.Bits.{bit-at}
+use Rattle.clocks_bits.specs.Packed.{bytes}
+use Rattle.tables_fill.specs.Fill.{Filling}
+use Rattle.tables_fill.specs.FillLaws.{fill-none}
+use Rattle.tables_fill.proofs.fill.Statement.{statement}
+use Rattle.tables_fill.proofs.fill.Tie as tie
+
+abbrev Inv-loop : tie.InvT-loop
+Inv-loop raster₀ keep holds n w b all s₀ raster s =
+    (s ≤ n) × ((length raster ≡ length raster₀) ×
+    ((d : List ℕ) → Filling n w keep holds 0 d raster₀ → Filling n w keep holds s d raster))
+
+abbrev μ-loop : tie.MeasureT-loop
+μ-loop raster₀ keep holds n w b all s₀ raster s = n - s
+
+add-b : tie.Need-add-b Inv-loop μ-loop
+add-b c = search needs
+
+mul-all : tie.Need-mul-all Inv-loop μ-loop
+mul-all c =
+    let args = c .before .before .before .args in
+    let pre = c .before .before .before .pre in
+    omega (arith, (mul-le-mul-right (bytes (args .w)) (pre .0)))
+
+zero-requires : tie.Need-zero-requires Inv-loop μ-loop
+zero-requires c κs = search needs
+
+loop-holds : tie.Need-loop-holds Inv-loop μ-loop
+loop-holds c = (omega arith, (refl, λ d F. F))
+
+fill-row-requires : tie.Need-fill-row-requires Inv-loop μ-loop
+fill-row-requires c κs =
+    let pre = c .before .before .before .before .before .before .before .before .before .before .pre in
+    let zero-call = c .before .before .before .before .before .zero in
+    let loop = c .before .before .loop in
+    let loop-test = c .before .loop-test in (
+      pre .0,
+      (
+        pre .1 .0,
+        (
+          loop-test .taken,
+          (pre .1 .1 .0, (pre .1 .1 .1 .0, omega (arith, loop .inv .1 .0, zero-call .kept .0))),
+        ),
+      ),
+    )
+
+add-s : tie.Need-add-s Inv-loop μ-loop
+add-s c = search needs
+
+loop-less : tie.Need-loop-less Inv-loop μ-loop
+loop-less c = search needs
+
+loop-again : tie.Need-loop-again Inv-loop μ-loop
+loop-again c =
+    let loop = c .before .before .before .before .before .loop in
+    let fill-row-call = c .before .before .fill-row in
+    (omega arith, (omega (arith, fill-row-call .kept), λ d F. fill-row-call .ensures d (loop .inv .1 .1 d F)))
+
+same-length : tie.Need-same-length Inv-loop μ-loop
+same-length c =
+    let zero-call = c .before .before .before .before .zero in
+    let loop = c .before .loop in
+    loop .inv .1 .0 ∙ zero-call .kept .0
+
+returns : tie.Need-returns Inv-loop μ-loop
+returns c =
+    let args = c .before .before .before .before .before .before .before .before .before .args in
+    let pre = c .before .before .before .before .before .before .before .before .before .pre in
+    let zero-call = c .before .before .before .before .zero in
+    let loop = c .before .loop in
+    let e : loop .s ≡ args .n = omega arith in
+    rw e at (loop .inv .1 .1 (args .raster .now)
+    (λ Y P. rw (zero-call .ensures)
+    (fill-none (args .n) (args .w) (bit-at (args .keep .now)) (at Y) (args .raster .now) (pre .1 .1 .1 .1))))
+
+pub fill-spec : {M : Type 1} → statement M
+fill-spec =
+    tie.close
+    (tie.spec
+    Inv-loop
+    μ-loop
+    add-b
+    mul-all
+    zero-requires
+    loop-holds
+    fill-row-requires
+    add-s
+    loop-less
+    loop-again
+    same-length
+    returns)

@@ -1,0 +1,51 @@
+-- Document 01's table file, a Netpbm raw PBM: the header and how long the table is.
+use mathlib.Core.Bool.{Bool, true, false, _&&_}
+use mathlib.Core.List.{List, [], _∷_, _++_}
+use Prim.Native.Nat.{ℕ, zero, suc, _+_, _*_, _/_, _%_}
+use Prim.Native.Char.{code}
+use Prim.Native.String.{String}
+use lib.Dec.{eqb, ltb}
+use lib.ListN.{length, getD}
+use Rattle.clocks_bits.specs.Packed.{bytes}
+
+-- a string's bytes
+abbrev pub ascii : String → List ℕ
+ascii String.[] = []
+ascii (String._∷_ c s) = code c ∷ ascii s
+
+-- the character of a digit below 10
+unfoldable pub digit : ℕ → ℕ
+digit d = getD (ascii "0") 0 0 + d
+
+-- the decimal digits of n, the first of them no zero unless n is 0; at most k of them
+unfoldable pub digits : ℕ → ℕ → List ℕ
+digits zero n = []
+digits (suc k) n = elim (ltb n 10) [ true ↦ digit n ∷ [] | false ↦ digits k (n / 10) ++ (digit (n % 10) ∷ []) ]
+
+-- a number in decimal, without leading zeros: n + 1 digits are always enough
+unfoldable pub decimal : ℕ → List ℕ
+decimal n = digits (suc n) n
+
+-- `P4`, LF, W, one space, H, LF; W the right states, H the left states
+unfoldable pub header : ℕ → ℕ → List ℕ
+header w h = ascii "P4\n" ++ (decimal w ++ (ascii " " ++ (decimal h ++ ascii "\n")))
+
+unfoldable pub header-bytes : ℕ → ℕ → ℕ
+header-bytes w h = length (header w h)
+
+-- h rows of ceil(w / 8) bytes
+abbrev pub raster-bytes : ℕ → ℕ → ℕ
+raster-bytes w h = h * bytes w
+
+unfoldable pub table-bytes : ℕ → ℕ → ℕ
+table-bytes w h = header-bytes w h + raster-bytes w h
+
+-- the bytes t begin with the bytes p
+unfoldable pub begins : List ℕ → List ℕ → Bool
+begins [] t = true
+begins (b ∷ p) [] = false
+begins (b ∷ p) (c ∷ t) = eqb c b && begins p t
+
+-- what 16 asks of a given table: its header is this very one, and its total length is right
+unfoldable pub fits : ℕ → ℕ → List ℕ → Bool
+fits w h t = begins (header w h) t && eqb (length t) (table-bytes w h)

@@ -1,0 +1,132 @@
+// The header of a table file and the length of the file. W counts the right states, H the left states.
+ghost use mathlib.Core.Path.{_≡_};
+ghost use Prim.Native.Nat.{_+_, _≤_, _<_};
+ghost use mathlib.Core.List.{_++_};
+ghost use lib.ListN.{length, getD, drop};
+ghost use Rattle.tables_rows.specs.Limits.{most-states};
+ghost use Rattle.tables_header.specs.Header.{ascii, decimal, header, header-bytes, table-bytes, begins, fits};
+
+// How many decimal digits n has.
+fn digit_count(n: usize) -> usize
+    requires { ⌜ n ≤ most-states ⌝ }
+    ensures { λ r. ⌜ r ≡ length (decimal n) ⌝ }
+{
+    let mut rest = n;
+    let mut k: usize = 1;
+    while 10 <= rest {
+        rest /= 10;
+        k += 1;
+    }
+    k
+}
+
+// Digit i of n in decimal, from the left.
+fn digit_at(n: usize, i: usize) -> u8
+    requires { ⌜ (n ≤ most-states) × (i < length (decimal n)) ⌝ }
+    ensures { λ r. ⌜ r ≡ getD (decimal n) i 0 ⌝ }
+{
+    let mut rest = n;
+    let mut k = digit_count(n);
+    while i + 1 < k {
+        rest /= 10;
+        k -= 1;
+    }
+    b'0' + (rest % 10) as u8
+}
+
+// How many bytes the header takes.
+pub fn header_length(w: usize, h: usize) -> usize
+    requires { ⌜ (w ≤ most-states) × (h ≤ most-states) ⌝ }
+    ensures { λ r. ⌜ r ≡ header-bytes w h ⌝ }
+{
+    5 + digit_count(w) + digit_count(h)
+}
+
+// The bytes in front of the numbers.
+fn magic(i: usize) -> u8
+    requires { ⌜ i < 3 ⌝ }
+    ensures { λ r. ⌜ r ≡ getD (ascii "P4\n") i 0 ⌝ }
+{
+    if i == 0 {
+        return b'P';
+    }
+    if i == 1 {
+        return b'4';
+    }
+    b'\n'
+}
+
+// Byte i of the header.
+fn header_byte(w: usize, h: usize, i: usize) -> u8
+    requires { ⌜ (w ≤ most-states) × ((h ≤ most-states) × (i < header-bytes w h)) ⌝ }
+    ensures { λ r. ⌜ r ≡ getD (header w h) i 0 ⌝ }
+{
+    if i < 3 {
+        return magic(i);
+    }
+    let a = 3 + digit_count(w);
+    if i < a {
+        return digit_at(w, i - 3);
+    }
+    if i == a {
+        return b' ';
+    }
+    let b = a + 1;
+    if i - b < digit_count(h) {
+        return digit_at(h, i - b);
+    }
+    b'\n'
+}
+
+// Writes the header into the front of the table.
+pub fn write_header(table: &mut [u8], w: usize, h: usize)
+    requires { ⌜ (w ≤ most-states) × ((h ≤ most-states) × (header-bytes w h ≤ length (now table))) ⌝ }
+    ensures { λ _. ⌜ now (table .exit) ≡ header w h ++ drop (header-bytes w h) (now (table .entry)) ⌝ }
+{
+    let size = header_length(w, h);
+    let mut i: usize = 0;
+    while i < size {
+        table[i] = header_byte(w, h, i);
+        i += 1;
+    }
+}
+
+// Whether the table begins with exactly the header's bytes.
+pub fn has_header(table: &[u8], w: usize, h: usize) -> bool
+    requires { ⌜ (w ≤ most-states) × (h ≤ most-states) ⌝ }
+    ensures { λ r. ⌜ r ≡ begins (header w h) (now (table .entry)) ⌝ }
+{
+    let size = header_length(w, h);
+    if table.len() < size {
+        return false;
+    }
+    let mut i: usize = 0;
+    while i < size {
+        let given = table[i];
+        let due = header_byte(w, h, i);
+        if given != due {
+            return false;
+        }
+        i += 1;
+    }
+    true
+}
+
+// How many bytes a table takes, header and raster.
+pub fn table_length(w: usize, h: usize) -> usize
+    requires { ⌜ (w ≤ most-states) × (h ≤ most-states) ⌝ }
+    ensures { λ r. ⌜ r ≡ table-bytes w h ⌝ }
+{
+    header_length(w, h) + h * ((w + 7) / 8)
+}
+
+// Document 01's 16 does not apply: the header and the total length are those of w right and h left states.
+pub fn is_table(table: &[u8], w: usize, h: usize) -> bool
+    requires { ⌜ (w ≤ most-states) × (h ≤ most-states) ⌝ }
+    ensures { λ r. ⌜ r ≡ fits w h (now (table .entry)) ⌝ }
+{
+    if !has_header(table, w, h) {
+        return false;
+    }
+    table.len() == table_length(w, h)
+}

@@ -1,0 +1,43 @@
+-- A raster: the rows of a table of n times w entries, each in whole bytes, padding 0.
+use mathlib.Core.Path.{_≡_}
+use mathlib.Core.Bool.{Bool, false, not, _&&_}
+use mathlib.Core.List.{List, _++_}
+use Prim.Native.Nat.{ℕ, _+_, _-_, _*_, _/_, _%_, _≤_, _<_}
+use lib.Dec.{ltb}
+use lib.ListN.{length, getD, take, drop}
+use Rattle.systems.specs.Tests.{at, table}
+use Rattle.clocks_bits.specs.Bits.{bit-at, byte-of, tab-from}
+use Rattle.clocks_bits.specs.Packed.{Packed, bytes}
+
+abbrev pub part : ℕ → ℕ → List ℕ → List ℕ
+part b s k = take b (drop (s * b) k)
+
+abbrev pub row : ℕ → List Bool → ℕ → List Bool
+row w X s = take w (drop (s * w) X)
+
+-- bit t of row s of a raster: the pair (s, t) is related
+abbrev pub set-at : ℕ → List ℕ → ℕ → ℕ → Bool
+set-at w k s t = bit-at (part (bytes w) s k) t
+
+-- the table that a raster denotes, padding not read
+unfoldable pub denoted : ℕ → ℕ → List ℕ → List Bool
+denoted n w k = table (n * w) (λ p. set-at w k (p / w) (p % w))
+
+-- entry t of row s, false past the row's end
+unfoldable pub in-row : ℕ → List Bool → ℕ → ℕ → Bool
+in-row w X s t = ltb t w && at X (s * w + t)
+
+-- the raster of X: n rows of w bits in ceil(w / 8) bytes each, high bit first, padding 0
+unfoldable pub raster : ℕ → ℕ → List Bool → List ℕ
+raster n w X = tab-from (λ i. byte-of (in-row w X (i / bytes w)) (i % bytes w)) 0 (n * bytes w)
+
+-- the bytes d with the first of them the raster of X
+unfoldable pub raster-of : ℕ → ℕ → List Bool → List ℕ → List ℕ
+raster-of n w X d = raster n w X ++ drop (n * bytes w) d
+
+pub record Raster (n w : ℕ) (X : List Bool) (d k : List ℕ) : Type 0 where
+  pub long : length X ≡ n * w
+  pub room : n * bytes w ≤ length d
+  pub sized : length k ≡ length d
+  pub rows : (s : ℕ) → s < n → Packed w (row w X s) (part (bytes w) s k) (part (bytes w) s k)
+  pub past : (i : ℕ) → n * bytes w ≤ i → getD k i 0 ≡ getD d i 0

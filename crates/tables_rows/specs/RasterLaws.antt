@@ -1,0 +1,171 @@
+-- Laws of rasters: their rows as parts, a row put back.
+use mathlib.Core.Path.{_≡_, refl, sym, ap, _∙_}
+use mathlib.Core.Logic.{_⊎_, ⊎-elim, _≢_}
+use mathlib.Core.Bool.{Bool, false}
+use mathlib.Core.List.{List, _++_}
+use Prim.Native.Nat.{ℕ, _+_, _-_, _*_, _/_, _%_, _≤_, _<_}
+use native.Mathlib.Nat.{mul-le-mul-right, add-mul, div-add-mod', mod-lt, div-lt-iff-lt-mul}
+use native.Mathlib.Decide.{ℕ-discrete}
+use native.Mathlib.Omega.{arith}
+use lib.Arith.{digits-lt, digits-div, digits-mod}
+use borrow.Author.Tests.{lt-ltb, le-ltb}
+use lib.ListN.{length, getD, take, drop, length-append, length-drop, List·getD-append, List·getD-eq-default}
+use lib.Seq.{ext-getD, getD-take, getD-drop, length-take-le, getD-append-add}
+use Rattle.systems.specs.Tests.{at, table}
+use Rattle.clocks_bits.specs.Bits.{byte-of, byte-same, written, written-is, written-at, written-past, written-length, less}
+use Rattle.clocks_bits.specs.Packed.{Packed, packed, bytes}
+use Rattle.tables_rows.specs.Raster.{Raster, in-row, part, raster, raster-of, row}
+
+row-room : (n b s : ℕ) → s < n → s * b + b ≤ n * b
+row-room n b s h = omega (arith, mul-le-mul-right b (let q : s + 1 ≤ n = omega arith in q), add-mul s 1 b)
+
+pub part-length : (n b : ℕ) (k : List ℕ) (s : ℕ) → n * b ≤ length k → s < n → length (part b s k) ≡ b
+part-length n b k s h l = length-take-le b (drop (s * b) k) (rw (length-drop (s * b) k) (omega (arith, row-room n b s l)))
+
+pub row-length : (n w : ℕ) (X : List Bool) (s : ℕ) → length X ≡ n * w → s < n → length (row w X s) ≡ w
+row-length n w X s h l = length-take-le w (drop (s * w) X) (rw (length-drop (s * w) X) (omega (arith, row-room n w s l)))
+
+pub part-at : (b : ℕ) (k : List ℕ) (s i : ℕ) → i < b → getD (part b s k) i 0 ≡ getD k (s * b + i) 0
+part-at b k s i h = getD-take b (drop (s * b) k) i 0 h ∙ getD-drop (s * b) k i 0
+
+pub row-at : (w : ℕ) (X : List Bool) (s t : ℕ) → t < w → at (row w X s) t ≡ at X (s * w + t)
+row-at w X s t h = getD-take w (drop (s * w) X) t false h ∙ getD-drop (s * w) X t false
+
+row-past : (n w : ℕ) (X : List Bool) (s t : ℕ) → length X ≡ n * w → s < n → w ≤ t → at (row w X s) t ≡ false
+row-past n w X s t h l m = List·getD-eq-default (row w X s) false (rw (row-length n w X s h l) m)
+
+row-in : (n w : ℕ) (X : List Bool) (s t : ℕ) → length X ≡ n * w → s < n → at (row w X s) t ≡ in-row w X s t
+unfolding in-row
+row-in n w X s t h l = ⊎-elim (λ m. rw (lt-ltb t w m) (row-at w X s t m))
+    (λ m. rw (le-ltb t w m) (row-past n w X s t h l m)) (less t w)
+
+-- such a raster is the raster of its table
+pub raster-is : {n w : ℕ} {X : List Bool} {d k : List ℕ} → 0 < w → Raster n w X d k → k ≡ raster-of n w X d
+unfolding raster-of raster written packed
+raster-is {n} {w} {X} {d} {k} p R =
+    written-is (λ i. byte-of (in-row w X (i / bytes w)) (i % bytes w)) (n * bytes w) k d (R .room) (R .sized) inside
+    (R .past)
+  where
+    wide : 0 < bytes w
+    wide = omega arith
+
+    inside : (i : ℕ) → i < n * bytes w → getD k i 0 ≡ byte-of (in-row w X (i / bytes w)) (i % bytes w)
+    inside i h =
+        let s = i / bytes w in
+        let t = i % bytes w in
+        let l : t < bytes w = mod-lt i wide in
+        let m : s < n = div-lt-iff-lt-mul wide .1 h in
+        let e : s * bytes w + t ≡ i = div-add-mod' i (bytes w) in
+        ap (λ (x : ℕ). getD k x 0) (sym e) ∙ sym (part-at (bytes w) k s t l)
+        ∙ ap (λ (y : List ℕ). getD y t 0) (R .rows s m .is)
+        ∙ written-at (byte-of (at (row w X s))) (bytes w) (part (bytes w) s k) t l
+        ∙ byte-same (at (row w X s)) (in-row w X s) t (λ j q. row-in n w X s (8 * t + j) (R .long) m)
+
+-- the raster of a table is such a raster
+pub raster-rows : {n w : ℕ} {X : List Bool} (d : List ℕ) → length X ≡ n * w → n * bytes w ≤ length d
+    → Raster n w X d (raster-of n w X d)
+unfolding raster-of raster written packed
+raster-rows {n} {w} {X} d long room =
+    let byte : ℕ → ℕ = λ i. byte-of (in-row w X (i / bytes w)) (i % bytes w) in
+    let k = written byte (n * bytes w) d in
+    let size : length k ≡ length d = written-length byte (n * bytes w) d room in
+    record {
+      long = long;
+      room = room;
+      sized = size;
+      rows = λ s h. let l : length (part (bytes w) s k) ≡ bytes w = part-length n (bytes w) k s (omega arith) h in record {
+        long = row-length n w X s long h;
+        room = omega arith;
+        is = written-is (byte-of (at (row w X s))) (bytes w) (part (bytes w) s k) (part (bytes w) s k) (omega arith) refl
+            (λ i q. part-at (bytes w) k s i q
+            ∙ written-at byte (n * bytes w) d (s * bytes w + i) (digits-lt h q)
+            ∙ rw (digits-div s q, digits-mod s q)
+            (sym (byte-same (at (row w X s)) (in-row w X s) i (λ j z. row-in n w X s (8 * i + j) long h))))
+            (λ i q. refl);
+      };
+      past = written-past byte (n * bytes w) d;
+    }
+
+-- a part put back
+module _ (a b : ℕ) (k y : List ℕ) (fits : a + b ≤ length k) (long : length y ≡ b) where
+  put : List ℕ
+  put = take a k ++ (y ++ drop b (drop a k))
+
+  front : length (take a k) ≡ a
+  front = length-take-le a k (omega arith)
+
+  put-before : (i : ℕ) → i < a → getD put i 0 ≡ getD k i 0
+  unfolding put
+  put-before i h = List·getD-append (take a k) (y ++ drop b (drop a k)) 0 i (rw front h) ∙ getD-take a k i 0 h
+
+  put-in : (i : ℕ) → i < b → getD put (a + i) 0 ≡ getD y i 0
+  unfolding put
+  put-in i h = ap (λ (x : ℕ). getD (take a k ++ (y ++ drop b (drop a k))) (x + i) 0) (sym front)
+      ∙ getD-append-add (take a k) (y ++ drop b (drop a k)) i 0
+      ∙ List·getD-append y (drop b (drop a k)) 0 i (rw long h)
+
+  put-after : (i : ℕ) → a + b ≤ i → getD put i 0 ≡ getD k i 0
+  unfolding put
+  put-after i h =
+      let e : i ≡ length (take a k) + (length y + (i - (a + b))) = omega (arith, front, long) in
+      let f : a + (b + (i - (a + b))) ≡ i = omega arith in
+      ap (λ (x : ℕ). getD (take a k ++ (y ++ drop b (drop a k))) x 0) e
+      ∙ getD-append-add (take a k) (y ++ drop b (drop a k)) (length y + (i - (a + b))) 0
+      ∙ getD-append-add y (drop b (drop a k)) (i - (a + b)) 0 ∙ getD-drop b (drop a k) (i - (a + b)) 0
+      ∙ getD-drop a k (b + (i - (a + b))) 0 ∙ ap (λ (x : ℕ). getD k x 0) f
+
+  put-length : length put ≡ length k
+  unfolding put
+  put-length = length-append (take a k) (y ++ drop b (drop a k))
+      ∙ omega (arith, front, long, length-append y (drop b (drop a k)), length-drop b (drop a k), length-drop a k)
+
+-- a raster with row s replaced
+module _ {n w : ℕ} {X : List Bool} {d k : List ℕ} (R : Raster n w X d k) (s : ℕ) (h : s < n) (Z : List Bool)
+    (y : List ℕ) (lz : length Z ≡ n * w) (here : Packed w (row w Z s) y y) (ly : length y ≡ bytes w)
+    (other : (i : ℕ) → i < n → i ≢ s → row w Z i ≡ row w X i) where
+  fits : s * bytes w + bytes w ≤ length k
+  fits = omega (arith, R .sized, R .room, row-room n (bytes w) s h)
+
+  pub raster-put : Raster n w Z d (take (s * bytes w) k ++ (y ++ drop (bytes w) (drop (s * bytes w) k)))
+  unfolding put
+  raster-put = record {
+    long = lz;
+    room = R .room;
+    sized = put-length (s * bytes w) (bytes w) k y fits ly ∙ R .sized;
+    rows = λ i l. elim (ℕ-discrete i s) [ yes e ↦ same i e | no e ↦ differ i l e ];
+    past = λ i l. put-after (s * bytes w) (bytes w) k y fits ly i (omega (arith, row-room n (bytes w) s h)) ∙ R .past i l;
+  }
+    where
+      new : List ℕ
+      new = take (s * bytes w) k ++ (y ++ drop (bytes w) (drop (s * bytes w) k))
+
+      room : n * bytes w ≤ length new
+      room = omega (arith, put-length (s * bytes w) (bytes w) k y fits ly, R .sized, R .room)
+
+      part-here : part (bytes w) s new ≡ y
+      part-here = ext-getD 0 (part (bytes w) s new) y (part-length n (bytes w) new s room h ∙ sym ly)
+          (λ i l. let m : i < bytes w = omega (arith, part-length n (bytes w) new s room h) in
+          part-at (bytes w) new s i m ∙ put-in (s * bytes w) (bytes w) k y fits ly i m)
+
+      same : (i : ℕ) → i ≡ s → Packed w (row w Z i) (part (bytes w) i new) (part (bytes w) i new)
+      same i e = rw (e, part-here) here
+
+      old : n * bytes w ≤ length k
+      old = omega (arith, R .sized, R .room)
+
+      outside : (i j : ℕ) → i < n → i ≢ s → j < bytes w → getD new (i * bytes w + j) 0 ≡ getD k (i * bytes w + j) 0
+      outside i j l e m = ⊎-elim (λ a. put-before (s * bytes w) (bytes w) k y fits ly (i * bytes w + j)
+          (digits-lt a m)) (λ a. put-after (s * bytes w) (bytes w) k y fits ly (i * bytes w + j)
+          (omega (arith, mul-le-mul-right (bytes w) (above a), add-mul s 1 (bytes w)))) (less i s)
+        where
+          above : s ≤ i → s + 1 ≤ i
+          above a = ⊎-elim (λ b. absurd (e (omega arith))) (λ b. b) (less i (s + 1))
+
+      part-else : (i : ℕ) → i < n → i ≢ s → part (bytes w) i new ≡ part (bytes w) i k
+      part-else i l e = ext-getD 0 (part (bytes w) i new) (part (bytes w) i k)
+          (part-length n (bytes w) new i room l ∙ sym (part-length n (bytes w) k i old l))
+          (λ j m. let q : j < bytes w = omega (arith, part-length n (bytes w) new i room l) in
+          part-at (bytes w) new i j q ∙ outside i j l e q ∙ sym (part-at (bytes w) k i j q))
+
+      differ : (i : ℕ) → i < n → i ≢ s → Packed w (row w Z i) (part (bytes w) i new) (part (bytes w) i new)
+      differ i l e = rw (part-else i l e, other i l e) (R .rows i l)

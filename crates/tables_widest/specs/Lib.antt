@@ -1,0 +1,4 @@
+pub mod Sweep
+pub mod SweepLaws
+pub mod Whole
+pub mod WholeLaws

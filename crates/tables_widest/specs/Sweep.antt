@@ -1,0 +1,63 @@
+-- The widest table on a raster: rows are narrowed step by step until nothing is taken out.
+use mathlib.Core.Path.{_≡_}
+use mathlib.Core.Bool.{Bool}
+use mathlib.Core.Option.{none}
+use mathlib.Core.List.{List}
+use Prim.Native.Nat.{ℕ, _+_, _-_, _*_, _≤_, _<_}
+use lib.Dec.{T}
+use lib.ListN.{length, getD}
+use Rattle.systems.specs.Tests.{stays, lands, at, ones, table}
+use Rattle.systems.specs.Sieve.{Between}
+use Rattle.systems.specs.Definitions.{Signature}
+use Rattle.systems.specs.Finite.{Finite-system, pairs, widest}
+use Rattle.systems.specs.Refinement.{pair-rule}
+use Rattle.clocks_bits.specs.Moves.{decode, Bounded}
+use Rattle.clocks_bits.specs.Packed.{bytes}
+use Rattle.tables_rows.specs.Raster.{Raster, row}
+use Rattle.tables_rows.specs.Given.{Given}
+use Rattle.tables_rows.specs.Narrow.{Table}
+
+-- what a sweep needs of the slices
+pub record Sweepable (n w steps : ℕ) (lm rm raster other : List ℕ) : Type 0 where
+  pub left : Bounded n steps lm
+  pub right : Bounded w steps rm
+  pub table : Table n w raster
+  pub wide : 0 < w
+  pub room : bytes w ≤ length other
+
+-- step c of row s is matched in the table X
+abbrev pub Matched : List ℕ → List ℕ → ℕ → ℕ → List Bool → ℕ → ℕ → Type 0
+Matched lm rm w steps X s c = (t : ℕ) → t < w → T (at X (s * w + t))
+    → T (stays (λ u. lands (λ v. at X (u * w + v)) (decode (getD rm (t * steps + c) 0)))
+    (decode (getD lm (s * steps + c) 0)))
+
+-- what a part of the sweep does to the table X: r entries are taken out, each for a reason; with none taken out, P holds
+pub record Swept (lm rm : List ℕ) (n w steps : ℕ) (P : List Bool → Type 0) (X : List Bool) (d k : List ℕ) (r : ℕ) : Type 0 where
+  pub after : List Bool
+  pub is : Raster n w after d k
+  pub count : r + ones after ≡ ones X
+  pub shrinks : (A : Signature) (L R : Finite-system A) → Given A L R lm rm n w steps
+      → Between (pair-rule L R) (pairs L R) X → Between (pair-rule L R) (pairs L R) after
+  pub still : r ≡ 0 → (after ≡ X) × P X
+
+abbrev pub Sweeps : List ℕ → List ℕ → ℕ → ℕ → ℕ → (List Bool → Type 0) → List ℕ → List ℕ → ℕ → Type 0
+Sweeps lm rm n w steps P k k′ r = (X : List Bool) (d : List ℕ) → Raster n w X d k → Swept lm rm n w steps P X d k′ r
+
+-- the steps below k of row s are matched
+abbrev pub Row-matched : List ℕ → List ℕ → ℕ → ℕ → ℕ → ℕ → List Bool → Type 0
+Row-matched lm rm w steps s k X = (c : ℕ) → c < k → Matched lm rm w steps X s c
+
+-- the rows from s on are matched
+abbrev pub Rows-matched : List ℕ → List ℕ → ℕ → ℕ → ℕ → ℕ → List Bool → Type 0
+Rows-matched lm rm n w steps s X = (i : ℕ) → s ≤ i → i < n → Row-matched lm rm w steps i steps X
+
+pub record Counted (n w : ℕ) (k : List ℕ) (count : ℕ) : Type 0 where
+  pub entries : List Bool
+  pub is : Raster n w entries k k
+  pub count-is : ones entries ≡ count
+
+-- from the pairs of L and R to the widest table
+abbrev pub Settled : List ℕ → List ℕ → ℕ → ℕ → ℕ → List ℕ → List ℕ → ℕ → Type 0
+Settled lm rm n w steps k k′ r =
+    (A : Signature) (L R : Finite-system A) → Given A L R lm rm n w steps → (d : List ℕ) → Raster n w (pairs L R) d k
+    → Raster n w (widest L R) d k′ × (r ≡ ones (widest L R))

@@ -1,0 +1,121 @@
+// Reads texts from standard input, a `#` between two, and writes what reading and the safe-state operation give for each.
+// What is expected comes from tests/make_cases.py, by a plain enumeration written from document 01.
+use clocks_read::ReadAnswer;
+use refusals::Refusal;
+use safe_states::SafeAnswer;
+ghost use Prim.Native.Nat.{_≤_, _<_};
+ghost use lib.ListN.{length};
+
+fn put(n: usize) {
+    io::write_all(1, b" ");
+    io::print_decimal(1, n as u64);
+}
+
+fn refusal(f: Refusal) {
+    io::write_all(1, b" refused");
+    put(f.code);
+    put(f.file);
+    put(f.p);
+    put(f.q);
+}
+
+// What reading gives: the refusal, or the state count.
+fn show_read(text: &[u8]) {
+    let r = clocks_read::read(text);
+    let a = r.answer;
+    match a {
+        ReadAnswer::Refused(f) => refusal(f),
+        ReadAnswer::Accepted => {
+            io::write_all(1, b" states");
+            put(r.states);
+        }
+    }
+}
+
+fn show_flag(b: bool) {
+    if b {
+        io::write_all(1, b" yes");
+    } else {
+        io::write_all(1, b" no");
+    }
+}
+
+// The first n bytes.
+fn show_bytes(s: &[u8], n: usize)
+    requires { ⌜ n ≤ length (now s) ⌝ }
+{
+    io::write_all(1, b" keep");
+    let mut i: usize = 0;
+    while i < n {
+        put(s[i] as usize);
+        i += 1;
+    }
+}
+
+// What the safe-state operation gives.
+fn show_safe(text: &[u8], keep: &mut [u8]) {
+    let a = safe_states::safe_states(text, keep);
+    match a {
+        SafeAnswer::Refused(f) => refusal(f),
+        SafeAnswer::Found(count, start) => {
+            io::write_all(1, b" safe");
+            put(count);
+            show_flag(start);
+        }
+    }
+}
+
+// One text: reading, the operation with a keep of one byte, and with one of 512, whose first seven bytes are shown.
+fn show(text: &[u8]) {
+    show_read(text);
+    io::write_all(1, b" |");
+    let mut short = [170u8; 1];
+    show_safe(text, &mut short);
+    show_bytes(&short, 1);
+    io::write_all(1, b" |");
+    let mut keep = [170u8; 512];
+    show_safe(text, &mut keep);
+    show_bytes(&keep, 7);
+    io::write_all(1, b"\n");
+}
+
+// The end of the text that starts at `from`: the next `#`, or the end of the input.
+fn text_end(s: &[u8], from: usize) -> usize
+    requires { ⌜ from ≤ length (now s) ⌝ }
+    ensures { λ r. ⌜ (from ≤ r) × (r ≤ length (now (s .entry))) ⌝ }
+{
+    let mut at = from;
+    while at < s.len() {
+        if s[at] == 35 {
+            return at;
+        }
+        at += 1;
+    }
+    at
+}
+
+// Where the next text starts.
+fn text_start(s: &[u8], from: usize, end: usize) -> usize
+    requires { ⌜ (from < length (now s)) × (from ≤ end) × (end ≤ length (now s)) ⌝ }
+    ensures { λ r. ⌜ (from < r) × (r ≤ length (now (s .entry))) ⌝ }
+{
+    if end < s.len() {
+        return end + 1;
+    }
+    end
+}
+
+fn show_all(s: &[u8]) {
+    let mut from: usize = 0;
+    while from < s.len() {
+        let end = text_end(s, from);
+        show(&s[from..end]);
+        from = text_start(s, from, end);
+    }
+}
+
+fn main() {
+    let mut buf = io::large_buffer();
+    let n = io::read_full(0, &mut buf);
+    show_all(&buf[..n]);
+}

@@ -1,0 +1,93 @@
+// Reads texts from standard input and prints what reading returns. Each text ends at a byte `%`; the byte after it says
+// whether the text is read as it is (`0`), with spaces up to the largest length (`1`), or up to one more (`2`). A line feed
+// comes between.
+ghost use mathlib.Core.Path.{_≡_};
+ghost use Prim.Native.Nat.{ℕ, _+_, _≤_, _<_};
+ghost use lib.ListN.{length};
+use reader_record::LARGEST_TEXT;
+
+// The place of the first `%` from `at` on, or the end.
+fn text_end(s: &[u8], at: usize) -> usize
+    requires { ⌜ at ≤ length (now s) ⌝ }
+    ensures { λ r. ⌜ (at ≤ r) × (r ≤ length (now (s .entry))) ⌝ }
+{
+    let mut i = at;
+    while i < s.len() {
+        if s[i] == b'%' {
+            return i;
+        }
+        i += 1;
+    }
+    i
+}
+
+// The byte at i, a space past the end.
+fn byte_at(t: &[u8], i: usize) -> u8 {
+    if i < t.len() {
+        return t[i];
+    }
+    b' '
+}
+
+// The text t, and spaces.
+fn lay(t: &[u8], room: &mut [u8]) {
+    let mut i = 0;
+    while i < room.len() {
+        room[i] = byte_at(t, i);
+        i += 1;
+    }
+}
+
+fn show(t: &[u8]) {
+    let p = reader::parse(t);
+    reader_print::print(p);
+}
+
+// The first n bytes.
+fn show_first(s: &[u8], n: usize) {
+    if n <= s.len() {
+        show(&s[..n]);
+    }
+}
+
+// The text t with spaces up to n bytes.
+fn show_long(t: &[u8], n: usize) {
+    let mut room = io::large_buffer();
+    lay(t, &mut room);
+    show_first(&room, n);
+}
+
+fn show_as(t: &[u8], how: u8) {
+    if how == b'1' {
+        show_long(t, LARGEST_TEXT);
+        return;
+    }
+    if how == b'2' {
+        show_long(t, LARGEST_TEXT + 1);
+        return;
+    }
+    show(t);
+}
+
+fn texts(s: &[u8]) {
+    let mut at = 0;
+    let mut k: u64 = 1;
+    while at < s.len() {
+        let e = text_end(s, at);
+        if s.len() - e < 3 {
+            return;
+        }
+        io::print_decimal(1, k);
+        show_as(&s[at..e], s[e + 1]);
+        at = e + 3;
+        if k < 1000 {
+            k += 1;
+        }
+    }
+}
+
+fn main() {
+    let mut buf = io::large_buffer();
+    let n = io::read_full(0, &mut buf);
+    texts(&buf[..n]);
+}

@@ -1,0 +1,117 @@
+-- Codes 1 to 12 in their order: one law of Paths.antt a path.
+use borrow.Author.Needs.{needs}
+use Rattle.two_texts.specs.Paths.{loaded-reading, left-too-long, right-too-long, left-refused, both-read}
+use Rattle.two_texts.proofs.load_two.Statement.{statement}
+use Rattle.two_texts.proofs.load_two.Tie as tie
+
+refused-requires : tie.Need-refused-requires
+refused-requires c κs = search needs
+
+returns : tie.Need-returns
+returns c =
+    let short-left = c .before in
+    let start = short-left .before .before .before .before .before .before .before in
+    left-too-long (start .args .left .now) (start .args .right .now) _ _ _ _ _ (short-left .if1 .taken)
+    (c .refused .ensures)
+
+refused-requires-2 : tie.Need-refused-requires-2
+refused-requires-2 c κs = search needs
+
+returns-2 : tie.Need-returns-2
+returns-2 c =
+    let short-right = c .before in
+    let short-left = short-right .before in
+    let start = short-left .before .before .before .before .before .before .before in
+    right-too-long (start .args .left .now) (start .args .right .now) (short-left .if1 .left) _ _ _ _ _
+    (short-right .if2 .taken) (c .refused2 .ensures)
+
+load-requires : tie.Need-load-requires
+load-requires c κs = search needs
+
+enum-known-answer : tie.Need-enum-known-answer
+enum-known-answer c = search needs
+
+in-file-requires : tie.Need-in-file-requires
+in-file-requires c κs = search needs
+
+refused-requires-3 : tie.Need-refused-requires-3
+refused-requires-3 c κs = search needs
+
+enum-told : tie.Need-enum-told
+enum-told c = search needs
+
+load-right-requires : tie.Need-load-right-requires
+load-right-requires c κs =
+    let told = c .before .before in
+    let loads = told .before .before .before .before .before .before in
+    let start = loads .before .before .before .before .before .before .before .before .before .before .before in (
+      loaded-reading (start .args .left .now) _ _ (loads .load .result) _ _ (loads .load .ensures)
+          (told .enum-told .given .1),
+      start .pre .1,
+      start .pre .3,
+    )
+
+same-length : tie.Need-same-length
+same-length c = search needs
+
+same-length-2 : tie.Need-same-length-2
+same-length-2 c = search needs
+
+returns-3 : tie.Need-returns-3
+returns-3 c =
+    let marks = c .before in
+    let told = marks .before .before in
+    let loads = told .before .before .before .before .before .before in
+    let short-right = loads .before .before .before in
+    let short-left = short-right .before in
+    let start = short-left .before .before .before .before .before .before .before in
+    left-refused (start .args .left .now) (start .args .right .now) (short-left .if1 .left)
+    (short-right .if2 .left) _ _ (loads .load .result) _ _ (loads .load .ensures) _ _ _ _ _
+    (told .answer .given .1) (marks .in-file .ensures) (c .refused3 .ensures)
+
+same-length-3 : tie.Need-same-length-3
+same-length-3 c = search needs
+
+same-length-4 : tie.Need-same-length-4
+same-length-4 c = search needs
+
+same-length-5 : tie.Need-same-length-5
+same-length-5 c = search needs
+
+same-length-6 : tie.Need-same-length-6
+same-length-6 c = search needs
+
+returns-4 : tie.Need-returns-4
+returns-4 c =
+    let ends = c .before .before .before .before in
+    let told = ends .before .before .before in
+    let loads = told .before .before .before .before .before .before in
+    let short-right = loads .before .before .before in
+    let short-left = short-right .before in
+    let start = short-left .before .before .before .before .before .before .before in
+    both-read (start .args .left .now) (start .args .right .now) (short-left .if1 .left)
+    (short-right .if2 .left) _ _ (loads .load .result) _ _ (loads .load .ensures) _ _ _
+    (told .enum-told .given .1) (start .pre .0) (start .pre .2) (ends .load-right .ensures)
+
+pub load-two-spec : {M : Type 1} → statement M
+load-two-spec =
+    tie.close
+    (tie.spec
+    refused-requires
+    returns
+    refused-requires-2
+    returns-2
+    load-requires
+    enum-known-answer
+    in-file-requires
+    refused-requires-3
+    enum-told
+    load-right-requires
+    same-length
+    same-length-2
+    returns-3
+    same-length-3
+    same-length-4
+    same-length-5
+    same-length-6
+    returns-4)

@@ -1,0 +1,93 @@
+-- Where codes 1 to 12 find nothing there are two texts to compare, and an outcome goes by what is known of them.
+use mathlib.Core.Path.{_≡_, refl, sym, subst, ap, _∙_, pathJ}
+use mathlib.Core.Bool.{Bool, true, false, cond}
+use mathlib.Core.Option.{Option, none, some}
+use mathlib.Core.List.{List}
+use Prim.Native.Nat.{ℕ, _≤_, _<_}
+use native.Mathlib.Omega.{arith}
+use lib.Dec.{T, ltb}
+use lib.ListN.{length}
+use Rattle.refusals.specs.declared.Refusal.{Refusal}
+use Rattle.reader_record.specs.declared.Text.{Text}
+use Rattle.systems.specs.Bools.{none-some}
+use Rattle.systems.specs.Definitions.{Input}
+use Rattle.clocks.specs.Accepted as accepted
+use Rattle.clocks.specs.Judgement.{input-known}
+use Rattle.clocks.specs.Contract.{signature}
+use Rattle.clocks_read.specs.declared.ReadAnswer.{ReadAnswer}
+use Rattle.clocks_read.specs.declared.ReadAnswer.the-variants as read
+use Rattle.clocks_read.specs.Reading.{read-outcome}
+use Rattle.clocks_read.specs.Laws.{Read, read-accepted}
+use Rattle.pairing.specs.declared.Matched.{Matched}
+use Rattle.pairing.specs.declared.Matched.the-variants.{Equal, Unmatched}
+use Rattle.pairing.specs.Channels.{left-file, right-file, Channel, Equal-channels, unmatched}
+use Rattle.pairing.specs.Equal.{Well-named, read-named, equal-when-nothing, step-input}
+use Rattle.two_texts.specs.Two.{text-of, too-long-in, refused-in, refused-pairing, or-else, two-judged, step-of, Compared, judged-by}
+
+-- nothing is found exactly when no judgement finds anything
+or-none : (a b : Option Refusal) → none ≡ or-else a b → (a ≡ none) × (none ≡ b)
+unfolding or-else
+or-none none b e = (refl, e)
+or-none (some r) b e = none-some r e
+
+refused-none : (file : ℕ) (a : ReadAnswer) → refused-in file a ≡ none → a ≡ read.Accepted
+unfolding refused-in
+refused-none file read.Accepted e = refl
+refused-none file (read.Refused r) e = none-some _ (sym e)
+
+pairing-none : (m : Matched) → none ≡ refused-pairing m → m ≡ Equal
+unfolding refused-pairing
+pairing-none Equal e = refl
+pairing-none (Unmatched r) e = none-some r e
+
+-- what is known of the texts where codes 1 to 12 find nothing
+pub record Judged (left right : List ℕ) : Type 0 where
+  pub left-read : read-outcome left .answer ≡ read.Accepted
+  pub right-read : read-outcome right .answer ≡ read.Accepted
+  pub equal : unmatched left (text-of left) right (text-of right) ≡ Equal
+
+pub judged-none : (left right : List ℕ) → none ≡ two-judged left right → Judged left right
+unfolding two-judged
+judged-none left right e =
+    let (a, f) = or-none (too-long-in left-file left) _ e in
+    let (b, g) = or-none (too-long-in right-file right) _ f in
+    let (c, h) = or-none (refused-in left-file (read-outcome left .answer)) _ g in
+    let (d, i) = or-none (refused-in right-file (read-outcome right .answer)) _ h in
+    record {
+      left-read = refused-none left-file (read-outcome left .answer) c;
+      right-read = refused-none right-file (read-outcome right .answer) d;
+      equal = pairing-none _ i;
+    }
+
+-- the names of an accepted text are within it and differ
+pub named : (s : List ℕ) → read-outcome s .answer ≡ read.Accepted → Well-named s (text-of s)
+named s e = let r = read-accepted s e in rw (r .same) (read-named s (r .parsed))
+
+pub channels-equal : (left right : List ℕ) → Judged left right → Equal-channels left (text-of left) right (text-of right)
+channels-equal left right j = equal-when-nothing left (text-of left) right (text-of right) (named left (j .left-read)) (named right (j .right-read)) (j .equal)
+
+pub judged-compared : (left right : List ℕ) → Judged left right → Compared left right
+unfolding signature
+judged-compared left right j = record {
+  left-text = read-accepted left (j .left-read) .accepted;
+  right-text = read-accepted right (j .right-read) .accepted;
+  inputs = λ c i.
+      let (a, b) = input-known (text-of left) c i in
+      subst T (sym (step-input left (text-of left) right (text-of right) (named left (j .left-read)) (named right (j .right-read)) (channels-equal left right j) c (record { from-one = a; declared = b }))) i;
+}
+
+pub compared : (left right : List ℕ) → none ≡ two-judged left right → Compared left right
+compared left right e = judged-compared left right (judged-none left right e)
+
+-- an outcome by a judgement that finds nothing, and by one that refuses
+pub judged-by-none : {X : Type 0} (o : Option Refusal) (refused : Refusal → X) (accepted : none ≡ o → X) (e : none ≡ o)
+    → judged-by o refused accepted ≡ accepted e
+unfolding judged-by
+judged-by-none {X} o refused accepted e =
+    pathJ (λ (p : Option Refusal) (q : none ≡ p). (f : none ≡ p → X) → judged-by p refused f ≡ f q) (λ f. refl) e accepted
+
+pub judged-by-some : {X : Type 0} (o : Option Refusal) (refused : Refusal → X) (accepted : none ≡ o → X) (r : Refusal) → o ≡ some r
+    → judged-by o refused accepted ≡ refused r
+unfolding judged-by
+judged-by-some {X} o refused accepted r e =
+    pathJ (λ (p : Option Refusal) (q : some r ≡ p). (f : none ≡ p → X) → judged-by p refused f ≡ refused r) (λ f. refl) (sym e) accepted

@@ -1,0 +1,6 @@
+pub mod Two
+pub mod Laws
+pub mod Loaded
+pub mod Answers
+pub mod Tables
+pub mod Paths

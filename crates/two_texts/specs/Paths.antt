@@ -1,0 +1,287 @@
+-- The ends of the code's paths.
+use mathlib.Core.Path.{_≡_, refl, sym, ap, _∙_}
+use mathlib.Core.Bool.{Bool}
+use mathlib.Core.Option.{none, some}
+use mathlib.Core.List.{List}
+use Prim.Native.Nat.{ℕ, _+_, _*_, _≤_, _<_}
+use native.Mathlib.Omega.{arith}
+use lib.ListN.{length}
+use borrow.Author.Tests.{lt-ltb, le-ltb}
+use Rattle.refusals.specs.declared.Refusal.{Refusal}
+use Rattle.refusals.specs.Refusals.{in-file, text-too-long}
+use Rattle.systems.specs.Bools.{none-some}
+use Rattle.reader_record.specs.declared.Text.{Text}
+use Rattle.reader_record.specs.Limits.{largest-text}
+use Rattle.reader_record.specs.Formed.{Well-formed}
+use Rattle.clocks_bits.specs.Bits.{tab-from, written, written-length}
+use Rattle.clocks.specs.States.{state-count, start-state, input, table-entry, table-size, table-limit, bytes-limit}
+use Rattle.clocks.specs.Accepted as accepted
+use Rattle.clocks.specs.Judgement.{judgement-few}
+use Rattle.clocks_read.specs.declared.ReadAnswer.the-variants as read
+use Rattle.clocks_read.specs.declared.Reading.{Reading}
+use Rattle.clocks_read.specs.Reading.{read-outcome, Loading, load-outcome}
+use Rattle.clocks_read.specs.Laws.{read-accepted, load-reading, load-moves, load-holds}
+use Rattle.clocks_read.specs.Paths.{loading}
+use Rattle.pairing.specs.declared.Matched.the-variants.{Equal, Unmatched}
+use Rattle.pairing.specs.declared.Pairing.{Pairing}
+use Rattle.pairing.specs.Channels.{left-file, right-file, unmatched, pairing, most-steps}
+use Rattle.pairing.specs.Table.{renumbered, Renumbering}
+use Rattle.two_texts.specs.declared.TwoAnswer.the-variants.{Accepted, Refused}
+use Rattle.two_texts.specs.declared.Two.{Two}
+use Rattle.two_texts.specs.Two.{text-of, too-long-in, refused-in, refused-pairing, or-else, two-judged, step-of}
+use Rattle.two_texts.specs.Laws.{Judged, judged-none}
+use Rattle.two_texts.specs.Loaded.{refusal-in, Loads}
+use Rattle.two_texts.specs.Answers.{refused, accepted as accepted-two, Sized, Accepted-reading, by-left, Filled, Paired, Right-loaded}
+use Rattle.two_texts.specs.Tables.{table-fits, step-below, map-at, both-loaded}
+
+-- a refusal is not an acceptance
+refused-never : {P : Type 0} (f : Refusal) (t : Two) → t ≡ refused f → t .answer ≡ Accepted → P
+unfolding refused refusal-in
+refused-never f t e a = none-some f (ap refusal-in (sym a ∙ ap (λ (x : Two). x .answer) e))
+
+refusal-of : (f : Refusal) (t : Two) → t ≡ refused f → some f ≡ refusal-in (t .answer)
+unfolding refused refusal-in
+refusal-of f t e = rw e
+
+accepted-none : (t : Two) → t .answer ≡ Accepted → refusal-in (t .answer) ≡ none
+unfolding refusal-in
+accepted-none t e = rw e
+
+numbers-none : (t : Two) (l r : Text) → t ≡ accepted-two l r → none ≡ refusal-in (t .answer)
+unfolding refusal-in accepted-two
+numbers-none t l r e = rw e
+
+-- the numbers
+pub numbers-done : (l r : Text) (ln rn ls rs : ℕ) (i : List Bool) → Sized l ln → Sized r rn
+    → ls ≡ start-state l → rs ≡ start-state r → i ≡ tab-from (input l) 0 most-steps
+    → _≡_ {A = Two} (record {
+      answer = Accepted;
+      «left_states» = ln;
+      «right_states» = rn;
+      steps = l .«channel_count» + 1;
+      «left_start» = ls;
+      «right_start» = rs;
+      inputs = i;
+    }) (accepted-two l r)
+unfolding accepted-two
+numbers-done l r ln rn ls rs i a b p q e = rw (a .count, b .count, p, q, e)
+
+-- an accepted reading
+module _ (s : List ℕ) (r : Reading) (R : Accepted-reading s r) where
+  pub answer-is : read-outcome s .answer ≡ read.Accepted
+  answer-is = sym (ap (λ (x : Reading). x .answer) (R .same)) ∙ R .accepted
+
+  pub text-is : r .text ≡ text-of s
+  text-is = ap (λ (x : Reading). x .text) (R .same)
+
+  pub reading-accepted : accepted.Accepted (text-of s)
+  reading-accepted = read-accepted s answer-is .accepted
+
+  states-are : r .states ≡ state-count (text-of s)
+  states-are = ap (λ (x : Reading). x .states) (R .same) ∙ read-accepted s answer-is .states
+
+  pub reading-formed : Well-formed (r .text)
+  reading-formed = rw text-is (reading-accepted .formed)
+
+  pub reading-sized : Sized (r .text) (r .states)
+  reading-sized = rw (text-is, states-are)
+      (record {
+        formed = reading-accepted .formed;
+        count = refl;
+        few = judgement-few (text-of s) (reading-accepted .clean);
+      })
+
+-- the paths after the channels are paired
+module _ (left : List ℕ) (l : Reading) (right : List ℕ) (r : Reading) (L : Accepted-reading left l)
+    (R : Accepted-reading right r) (p : Pairing) (e : p ≡ pairing left (l .text) right (r .text)) where
+  pairing-is : p ≡ pairing left (text-of left) right (text-of right)
+  pairing-is = rw (text-is left l L, text-is right r R) at e
+
+  match-is : p .answer ≡ unmatched left (text-of left) right (text-of right)
+  unfolding pairing
+  match-is = ap (λ (x : Pairing). x .answer) pairing-is
+
+  map-is : p .map ≡ tab-from (step-of left right) 0 most-steps
+  unfolding pairing
+  map-is = ap (λ (x : Pairing). x .map) pairing-is
+
+  pub paired-refused : (own d : List ℕ) (f : Refusal) (t : Two) → p .answer ≡ Unmatched f → t ≡ refused f
+      → Paired left right own d d t
+  unfolding refused-pairing
+  paired-refused own d f t a q = record {
+    judged = rw (sym match-is ∙ a) (refusal-of f t q);
+    numbers = refused-never f t q;
+    moves = refused-never f t q;
+  }
+
+  module _ (a : p .answer ≡ Equal) where
+    both-judged : Judged left right
+    both-judged = record {
+      left-read = answer-is left l L;
+      right-read = answer-is right r R;
+      equal = sym match-is ∙ a;
+    }
+
+    pub paired-renumbers : (own d : List ℕ) → table-limit ≤ length own → table-limit ≤ length d
+        → Renumbering (length own) (p .map) (length d) (r .states) (r .text .«channel_count» + 1)
+        (l .text .«channel_count» + 1)
+    paired-renumbers own d h k =
+        let wl = reading-accepted left l L in
+        let wr = reading-accepted right r R in
+        rw (map-is, states-are right r R, text-is right r R, text-is left l L) (record {
+          some = omega arith;
+          few = omega (arith, wl .formed .channels);
+          few-right = omega (arith, wr .formed .channels);
+          rows = judgement-few (text-of right) (wr .clean);
+          long = table-fits (text-of right) wr (text-of right .«channel_count» + 1) (length own)
+              (omega (arith, wr .formed .channels)) h;
+          room = table-fits (text-of right) wr (text-of left .«channel_count» + 1) (length d)
+              (omega (arith, wl .formed .channels)) k;
+          steps = λ c m. rw (map-at left right both-judged c (omega (arith, wl .formed .channels)))
+              (step-below left right both-judged c m);
+        })
+
+    pub paired-accepted : (own d after : List ℕ) (t : Two)
+        → after ≡ written (renumbered own (p .map) (r .text .«channel_count» + 1) (l .text .«channel_count» + 1))
+        (r .states * (l .text .«channel_count» + 1)) d
+        → t ≡ accepted-two (l .text) (r .text)
+        → Paired left right own d after t
+    unfolding refused-pairing by-left
+    paired-accepted own d after t m q =
+        let n : t ≡ accepted-two (text-of left) (text-of right) = rw (text-is left l L, text-is right r R) at q in
+        record {
+          judged = rw (both-judged .equal) (numbers-none t (text-of left) (text-of right) n);
+          numbers = λ _. n;
+          moves = λ _. rw (map-is, states-are right r R, text-is right r R, text-is left l L) at m;
+        }
+
+-- a text after loading
+module _ (s m h : List ℕ) (r : Reading) (m′ h′ : List ℕ) (e : loading r m′ h′ ≡ load-outcome s m h) where
+  pub reading-is : r ≡ read-outcome s
+  reading-is = ap (λ (x : Loading). x .reading) e ∙ load-reading s m h
+
+  loaded-refused : (file : ℕ) (f : Refusal) → r .answer ≡ read.Refused f
+      → refused-in file (read-outcome s .answer) ≡ some (in-file file f)
+  unfolding refused-in
+  loaded-refused file f a = rw (sym (ap (λ (x : Reading). x .answer) reading-is) ∙ a)
+
+  module _ (a : r .answer ≡ read.Accepted) where
+    pub loaded-reading : Accepted-reading s r
+    loaded-reading = record { same = reading-is; accepted = a }
+
+    loaded-none : (file : ℕ) → refused-in file (read-outcome s .answer) ≡ none
+    unfolding refused-in
+    loaded-none file = rw (answer-is s r loaded-reading)
+
+    loaded-moves : m′ ≡ written (table-entry (text-of s)) (table-size (text-of s)) m
+    loaded-moves = ap (λ (x : Loading). x .moves) e ∙ load-moves s m h (answer-is s r loaded-reading)
+
+    loaded-room : table-limit ≤ length m → table-size (text-of s) ≤ length m
+    unfolding table-size
+    loaded-room k =
+        let w = reading-accepted s r loaded-reading in
+        table-fits (text-of s) w (text-of s .«channel_count» + 1) (length m) (omega (arith, w .formed .channels)) k
+
+    loaded-filled : table-limit ≤ length m → bytes-limit ≤ length h → Filled (text-of s) m′ h′
+    loaded-filled k l =
+        let w = reading-accepted s r loaded-reading in
+        record {
+          over = m;
+          room = loaded-room k;
+          moves-are = loaded-moves;
+          under = h;
+          long = omega (arith, l, judgement-few (text-of s) (w .clean));
+          holds-are = ap (λ (x : Loading). x .holds) e ∙ load-holds s m h (answer-is s r loaded-reading);
+        }
+
+    -- the table keeps its length
+    pub loaded-long : table-limit ≤ length m → table-limit ≤ length m′
+    loaded-long k =
+        let e = written-length (table-entry (text-of s)) (table-size (text-of s)) m (loaded-room k) in
+        omega (arith, k, ap length loaded-moves, e)
+
+-- the paths after the right is loaded
+module _ (left : List ℕ) (l : Reading) (L : Accepted-reading left l) (right m h : List ℕ) (r : Reading)
+    (own h′ : List ℕ) (e : loading r own h′ ≡ load-outcome right m h) where
+  pub right-refused : (d : List ℕ) (f g : Refusal) (t : Two) → r .answer ≡ read.Refused f
+      → g ≡ in-file right-file f → t ≡ refused g
+      → Right-loaded left right d h′ t
+  unfolding or-else
+  right-refused d f g t a q z = record {
+    judged = rw (loaded-refused right m h r own h′ e right-file f a) (rw (sym q) (refusal-of g t z));
+    numbers = refused-never g t z;
+    filled = refused-never g t z;
+  }
+
+  pub right-paired : (d d′ : List ℕ) (t : Two) → r .answer ≡ read.Accepted
+      → table-limit ≤ length m → table-limit ≤ length d → bytes-limit ≤ length h
+      → Paired left right own d d′ t → Right-loaded left right d′ h′ t
+  unfolding or-else
+  right-paired d d′ t a j k n P =
+      let wl = reading-accepted left l L in
+      let wr = reading-accepted right r (loaded-reading right m h r own h′ e a) in
+      record {
+        judged = rw (loaded-none right m h r own h′ e a right-file) (P .judged);
+        numbers = P .numbers;
+        filled = λ z. record {
+          own = own;
+          filled = loaded-filled right m h r own h′ e a j n;
+          before = d;
+          space = table-fits (text-of right) wr (text-of left .«channel_count» + 1) (length d)
+              (omega (arith, wl .formed .channels)) k;
+          moves-are = P .moves z;
+        };
+      }
+
+-- the paths of the whole
+module _ (left right : List ℕ) where
+  loads-refused : (lm rm lh rh : List ℕ) (f : Refusal) (t : Two) → two-judged left right ≡ some f → t ≡ refused f
+      → Loads left right lm rm lh rh t
+  loads-refused lm rm lh rh f t j e = record { judged = j ∙ refusal-of f t e; loaded = λ c. refused-never f t e }
+
+  pub left-too-long : (lm rm lh rh : List ℕ) (t : Two) → largest-text < length left
+      → t ≡ refused (in-file left-file text-too-long) → Loads left right lm rm lh rh t
+  unfolding two-judged too-long-in or-else
+  left-too-long lm rm lh rh t h e =
+      loads-refused lm rm lh rh (in-file left-file text-too-long) t (rw (lt-ltb largest-text (length left) h)) e
+
+  module _ (h : length left ≤ largest-text) where
+    pub right-too-long : (lm rm lh rh : List ℕ) (t : Two) → largest-text < length right
+        → t ≡ refused (in-file right-file text-too-long) → Loads left right lm rm lh rh t
+    unfolding two-judged too-long-in or-else
+    right-too-long lm rm lh rh t k e =
+        loads-refused lm rm lh rh (in-file right-file text-too-long) t
+        (rw (le-ltb largest-text (length left) h, lt-ltb largest-text (length right) k)) e
+
+    module _ (k : length right ≤ largest-text) (lm lh : List ℕ) (l : Reading) (lm′ lh′ : List ℕ)
+        (e : loading l lm′ lh′ ≡ load-outcome left lm lh) where
+      pub left-refused : (rm rh : List ℕ) (f g : Refusal) (t : Two) → l .answer ≡ read.Refused f
+          → g ≡ in-file left-file f → t ≡ refused g
+          → Loads left right lm′ rm lh′ rh t
+      unfolding two-judged too-long-in or-else
+      left-refused rm rh f g t a q z =
+          loads-refused lm′ rm lh′ rh g t
+          (rw (
+            le-ltb largest-text (length left) h,
+            le-ltb largest-text (length right) k,
+            loaded-refused left lm lh l lm′ lh′ e left-file f a,
+            q,
+          )) z
+
+      pub both-read : (rm rh : List ℕ) (t : Two) → l .answer ≡ read.Accepted
+          → table-limit ≤ length lm → bytes-limit ≤ length lh
+          → Right-loaded left right rm rh t → Loads left right lm′ rm lh′ rh t
+      unfolding two-judged too-long-in or-else
+      both-read rm rh t a m n R =
+          let j : two-judged left right ≡ refusal-in (t .answer) =
+          rw (
+            le-ltb largest-text (length left) h,
+            le-ltb largest-text (length right) k,
+            loaded-none left lm lh l lm′ lh′ e a left-file,
+          ) (R .judged) in
+          record {
+            judged = j;
+            loaded = λ c z. rw (R .numbers z)
+                (both-loaded left right lm′ rm lh′ rh (judged-none left right (sym (j ∙ accepted-none t z))) c
+                (loaded-filled left lm lh l lm′ lh′ e a m n) (R .filled z));
+          }

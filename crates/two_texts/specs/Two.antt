@@ -1,0 +1,79 @@
+-- The two texts of an operation, the left (the draft) and the right (the contract), as their bytes: codes 1 to 12 in
+-- document 01's order, and what an operation works on once they find nothing.
+use mathlib.Core.Path.{_≡_, refl}
+use mathlib.Core.Bool.{Bool, cond}
+use mathlib.Core.Option.{Option, none, some}
+use mathlib.Core.List.{List}
+use Prim.Native.Nat.{ℕ}
+use lib.Dec.{ltb}
+use lib.ListN.{length}
+use Rattle.refusals.specs.declared.Refusal.{Refusal}
+use Rattle.refusals.specs.Refusals.{in-file, text-too-long}
+use Rattle.reader_record.specs.Limits.{largest-text}
+use Rattle.reader_record.specs.declared.Text.{Text}
+use Rattle.systems.specs.Definitions.{Input}
+use Rattle.systems.specs.Finite.{Finite-system}
+use Rattle.systems.specs.Renumbered.{renumbered}
+use Rattle.clocks.specs.Accepted.{Accepted}
+use Rattle.clocks.specs.Contract.{signature, system}
+use Rattle.clocks_read.specs.declared.ReadAnswer.{ReadAnswer}
+use Rattle.clocks_read.specs.declared.ReadAnswer.the-variants as read
+use Rattle.clocks_read.specs.Reading.{read-outcome}
+use Rattle.pairing.specs.declared.Matched.{Matched}
+use Rattle.pairing.specs.declared.Matched.the-variants.{Equal, Unmatched}
+use Rattle.pairing.specs.Channels.{left-file, right-file, unmatched, right-step}
+
+-- the record of a text that is read
+abbrev pub text-of : List ℕ → Text
+text-of s = read-outcome s .text
+
+-- code 1, with the mark of the file
+unfoldable pub too-long-in : ℕ → List ℕ → Option Refusal
+too-long-in file s = cond (ltb largest-text (length s)) (some (in-file file text-too-long)) none
+
+-- codes 1 to 11, with the mark of the file
+unfoldable pub refused-in : ℕ → ReadAnswer → Option Refusal
+refused-in file read.Accepted = none
+refused-in file (read.Refused r) = some (in-file file r)
+
+-- code 12, which says itself which file it means
+unfoldable pub refused-pairing : Matched → Option Refusal
+refused-pairing Equal = none
+refused-pairing (Unmatched r) = some r
+
+-- the refusal that is judged first
+unfoldable pub or-else : Option Refusal → Option Refusal → Option Refusal
+or-else none later = later
+or-else (some r) later = some r
+
+-- "Code 1 comes before all reading, the left's and then the right's"; "Left is read before right"; then 12.
+-- None: both texts are accepted and have equal channels.
+unfoldable pub two-judged : List ℕ → List ℕ → Option Refusal
+two-judged left right =
+    or-else (too-long-in left-file left)
+    (or-else (too-long-in right-file right)
+    (or-else (refused-in left-file (read-outcome left .answer))
+    (or-else (refused-in right-file (read-outcome right .answer))
+    (refused-pairing (unmatched left (text-of left) right (text-of right))))))
+
+-- the right's number of a step of the left: "Channels pair up by name"
+abbrev pub step-of : List ℕ → List ℕ → ℕ → ℕ
+step-of left right = right-step left (text-of left) right (text-of right)
+
+-- what an operation works on: two accepted texts whose channels pair up, inputs with inputs
+pub record Compared (left right : List ℕ) : Type 0 where
+  pub left-text : Accepted (text-of left)
+  pub right-text : Accepted (text-of right)
+  pub inputs : (c : ℕ) → Input (signature (text-of left)) c → Input (signature (text-of right)) (step-of left right c)
+
+-- the two texts by their state numbers, the right one's steps by the left's numbers
+abbrev pub left-system : {left right : List ℕ} → Compared left right → Finite-system (signature (text-of left))
+left-system {left} {right} c = system (text-of left) (c .left-text)
+
+abbrev pub right-system : {left right : List ℕ} → Compared left right → Finite-system (signature (text-of left))
+right-system {left} {right} c = renumbered (step-of left right) (c .inputs) (system (text-of right) (c .right-text))
+
+-- an outcome by cases on a judgement: its refusal, or what holds where it finds nothing
+unfoldable pub judged-by : {X : Type 0} (o : Option Refusal) → (Refusal → X) → (none ≡ o → X) → X
+judged-by none refused accepted = accepted refl
+judged-by (some r) refused accepted = refused r
