@@ -5,7 +5,9 @@ CONTRACT ?= examples/Post.xta
 .PHONY: run test
 
 run:
-	@echo "make run: the program is not in this landing yet; docs/CHANGES.md says what is." >&2; exit 1
+	@mkdir -p target/run
+	@rt check megzhoi > target/run/check.log 2>&1 || { tail -n 20 target/run/check.log >&2; exit 1; }
+	@cp "$(DRAFT)" target/run/left.xta && cp "$(CONTRACT)" target/run/right.xta && cd target/run && ../bin/megzhoi
 
 test:
 	@.ci/run

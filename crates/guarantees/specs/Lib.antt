@@ -1,0 +1,5 @@
+pub mod Texts
+pub mod Setting
+pub mod Searched
+
+pub mod Tabled

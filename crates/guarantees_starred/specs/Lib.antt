@@ -1,0 +1,6 @@
+pub mod Opened
+pub mod Posts
+pub mod Runs
+pub mod Tables
+pub mod Outcomes
+pub mod Starred

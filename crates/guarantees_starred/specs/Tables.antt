@@ -1,0 +1,137 @@
+-- The tables of the posts: the widest ones, and the checks of two given ones, computed.
+use mathlib.Core.Path.{_≡_, refl, sym, ap, subst, _∙_}
+use mathlib.Core.Bool.{Bool, true, false, not, _&&_, cond}
+use mathlib.Core.List.{List, [], _∷_, _++_}
+use Prim.Native.Nat.{ℕ, suc}
+use Prim.Native.String.{String}
+use lib.ListN.{length, drop}
+use Rattle.systems.specs.Tests.{at, ones, table, sieve, least}
+use Rattle.systems.specs.Definitions.{Signature}
+use Rattle.systems.specs.Finite.{Finite-system, safe-states, widest, if-in, pruned, step-ok}
+use Rattle.systems.specs.Compute.{widest-by}
+use Rattle.reader_examples.specs.Texts.{post, rearm}
+use Rattle.reader_examples.specs.Records.{post-record, rearm-record}
+use Rattle.clocks_bits.specs.Bits.{bit-at, byte-of, tab-from}
+use Rattle.tables_check.specs.Fault.{step-fault, picked, row-from, table-from}
+use Rattle.tables_check.specs.declared.Fault.{Fault}
+use Rattle.tables_check.specs.declared.Fault.the-variants.{Fine, NotAllowed}
+use Rattle.tables_check.specs.declared.Found.{Found}
+use Rattle.tables_check.specs.declared.Found.the-variants.{Passed, BrokenAt}
+use Rattle.tables_check.specs.Judged.{breaks, least-broken, pair-fault, judged}
+use Rattle.tables_header.specs.Header.{ascii, digit, digits, decimal, header, header-bytes, table-bytes, begins, fits}
+use Rattle.tables_rows.specs.Raster.{set-at, denoted, in-row, raster}
+use Rattle.tables_whole.specs.Answer.{table-file}
+use Rattle.guarantees_starred.specs.Opened.{opened}
+use Rattle.guarantees_starred.specs.Posts.{post-keep, post-safe, rearm-keep, rearm-safe}
+use Rattle.guarantees_starred.specs.Runs.{Pair, left-of, right-of}
+
+-- "raster rows 80 00, 40 00, 20 00, 10 00, 00 00, then five of 07 C0"
+abbrev pub widest-raster : List ℕ
+widest-raster =
+    0x80 ∷ 0x00 ∷ 0x40 ∷ 0x00 ∷ 0x20 ∷ 0x00 ∷ 0x10 ∷ 0x00 ∷ 0x00 ∷ 0x00
+    ∷ 0x07 ∷ 0xC0 ∷ 0x07 ∷ 0xC0 ∷ 0x07 ∷ 0xC0 ∷ 0x07 ∷ 0xC0 ∷ 0x07 ∷ 0xC0 ∷ []
+
+-- "the 9 safe diagonal pairs"
+abbrev pub diagonal-raster : List ℕ
+diagonal-raster =
+    0x80 ∷ 0x00 ∷ 0x40 ∷ 0x00 ∷ 0x20 ∷ 0x00 ∷ 0x10 ∷ 0x00 ∷ 0x00 ∷ 0x00
+    ∷ 0x04 ∷ 0x00 ∷ 0x02 ∷ 0x00 ∷ 0x01 ∷ 0x00 ∷ 0x00 ∷ 0x80 ∷ 0x00 ∷ 0x40 ∷ []
+
+-- "only the start pair"
+abbrev pub start-raster : List ℕ
+start-raster =
+    0x80 ∷ 0x00 ∷ 0x00 ∷ 0x00 ∷ 0x00 ∷ 0x00 ∷ 0x00 ∷ 0x00 ∷ 0x00 ∷ 0x00
+    ∷ 0x00 ∷ 0x00 ∷ 0x00 ∷ 0x00 ∷ 0x00 ∷ 0x00 ∷ 0x00 ∷ 0x00 ∷ 0x00 ∷ 0x00 ∷ []
+
+-- a table of 10 by 10 states with this raster
+abbrev pub ten-by-ten : List ℕ → List ℕ
+ten-by-ten r = ascii "P4\n10 10\n" ++ r
+
+-- the widest table of Post against Post, row after row
+abbrev pub post-pairs : List Bool
+post-pairs =
+    true ∷ false ∷ false ∷ false ∷ false ∷ false ∷ false ∷ false ∷ false ∷ false ∷ 
+    false ∷ true ∷ false ∷ false ∷ false ∷ false ∷ false ∷ false ∷ false ∷ false ∷ 
+    false ∷ false ∷ true ∷ false ∷ false ∷ false ∷ false ∷ false ∷ false ∷ false ∷ 
+    false ∷ false ∷ false ∷ true ∷ false ∷ false ∷ false ∷ false ∷ false ∷ false ∷ 
+    false ∷ false ∷ false ∷ false ∷ false ∷ false ∷ false ∷ false ∷ false ∷ false ∷ 
+    false ∷ false ∷ false ∷ false ∷ false ∷ true ∷ true ∷ true ∷ true ∷ true ∷ 
+    false ∷ false ∷ false ∷ false ∷ false ∷ true ∷ true ∷ true ∷ true ∷ true ∷ 
+    false ∷ false ∷ false ∷ false ∷ false ∷ true ∷ true ∷ true ∷ true ∷ true ∷ 
+    false ∷ false ∷ false ∷ false ∷ false ∷ true ∷ true ∷ true ∷ true ∷ true ∷ 
+    false ∷ false ∷ false ∷ false ∷ false ∷ true ∷ true ∷ true ∷ true ∷ true ∷ []
+
+pub post-widest : (p : Pair post post post-record post-record) → widest (left-of p) (right-of p) ≡ post-pairs
+unfolding opened
+post-widest p = widest-by (left-of p) (right-of p) post-keep (post-safe (p .left-text))
+
+-- how many there are, and the file
+pub post-count : ones post-pairs ≡ 29
+unfolding ones
+post-count = refl
+
+unfoldable pub opened-file : Unit {0}
+unfolding digit digits decimal header header-bytes table-bytes begins fits in-row raster tab-from byte-of table-file
+opened-file = tt
+
+pub post-file : table-file 10 10 post-pairs ≡ ten-by-ten widest-raster
+unfolding opened-file
+post-file = refl
+
+pub file-size : table-bytes 10 10 ≡ 29
+unfolding opened-file
+file-size = refl
+
+pub header-size : header-bytes 10 10 ≡ 9
+unfolding opened-file
+header-size = refl
+
+-- Rearm against Post: 25 pairs, and the start pair is not one
+pub rearm-count : (p : Pair rearm post rearm-record post-record) → ones (widest (left-of p) (right-of p)) ≡ 25
+unfolding opened
+rearm-count p = ap ones (widest-by (left-of p) (right-of p) rearm-keep (rearm-safe (p .left-text)))
+
+pub rearm-start : (p : Pair rearm post rearm-record post-record) → at (widest (left-of p) (right-of p)) 0 ≡ false
+unfolding opened
+rearm-start p = ap (λ (X : List Bool). at X 0) (widest-by (left-of p) (right-of p) rearm-keep (rearm-safe (p .left-text)))
+
+-- the check with the left's safe states handed over
+module _ {A : Signature} (L R : Finite-system A) (X : ℕ → ℕ → Bool) where
+  unfoldable pub broken-with : List Bool → ℕ → ℕ → ℕ → Bool
+  broken-with K s t c = not (step-ok A (λ s c. if-in K (L .next s c)) (R .next) X s t c)
+
+  unfoldable pub fault-with : List Bool → ℕ → ℕ → Fault
+  fault-with K s t =
+      let broken = step-fault (suc (A .channels)) (least (broken-with K s t) 0 (suc (A .channels))) in
+      cond (X s t) (cond (at K s && R .holds t) broken NotAllowed) Fine
+
+  unfoldable pub judged-with : List Bool → Found
+  judged-with K = table-from (fault-with K) (R .size) (L .size) 0
+
+  pub judged-by : (K : List Bool) → safe-states L ≡ K → judged L R X ≡ judged-with K
+  unfolding judged pair-fault least-broken breaks pruned broken-with fault-with judged-with
+  judged-by K e = ap judged-with e
+
+unfoldable pub opened-check : Unit {0}
+unfolding opened broken-with fault-with judged-with step-fault picked row-from table-from bit-at
+opened-check = tt
+
+pub diagonal-judged : (p : Pair post post post-record post-record) → judged (left-of p) (right-of p) (set-at 10 diagonal-raster) ≡ Passed
+unfolding opened-check
+diagonal-judged p = judged-by (left-of p) (right-of p) (set-at 10 diagonal-raster) post-keep (post-safe (p .left-text))
+
+pub start-judged : (p : Pair post post post-record post-record) → judged (left-of p) (right-of p) (set-at 10 start-raster) ≡ BrokenAt 0 0 0
+unfolding opened-check
+start-judged p = judged-by (left-of p) (right-of p) (set-at 10 start-raster) post-keep (post-safe (p .left-text))
+
+pub diagonal-count : ones (denoted 10 10 diagonal-raster) ≡ 9
+unfolding ones denoted table sieve bit-at
+diagonal-count = refl
+
+pub diagonal-fits : fits 10 10 (ten-by-ten diagonal-raster) ≡ true
+unfolding opened-file
+diagonal-fits = refl
+
+pub start-fits : fits 10 10 (ten-by-ten start-raster) ≡ true
+unfolding opened-file
+start-fits = refl

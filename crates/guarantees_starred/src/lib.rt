@@ -1,0 +1,1 @@
+// One theorem, in specs/: document 01's starred posts, settled together.

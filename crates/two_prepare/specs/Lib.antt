@@ -1,0 +1,3 @@
+pub mod Prepared
+pub mod Paths
+pub mod Callers
