@@ -1,5 +1,6 @@
 pub mod Texts
+pub mod Demands
 pub mod Setting
 pub mod Searched
-
 pub mod Tabled
+pub mod Answered

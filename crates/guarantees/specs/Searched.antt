@@ -23,37 +23,8 @@ use Rattle.search.specs.declared.SearchAnswer.{SearchAnswer}
 use Rattle.search.specs.declared.SearchAnswer.the-variants.{Found, Refused}
 use Rattle.search.specs.Outcome.{Outcome, refused, found, search-compared, search-outcome}
 use Rattle.guarantees.specs.Texts.{Accepted-text, states, meaning, right-meaning, Equal-channels, Consistent, Keeps, search-refusal, Long-enough}
+use Rattle.guarantees.specs.Demands.{Search-demand}
 use Rattle.guarantees.specs.Setting.{nothing-found, same-safe, no-departure-same, shortest-same, both, Left, Right, left-capping, right-capping, left-states, right-states, left-safe, keeps}
-
--- What is asked of the search's outcome o, where keep and run came as `keep` and `run`.
-pub record Search-demand (left right : List ℕ) (a : Accepted-text left) (b : Accepted-text right) (keep run : List ℕ) (o : Outcome) : Type 1 where
-  -- "The search returns n"
-  pub n : ℕ
-  pub answer : o .answer ≡ Found n
-  -- "and writes n steps into the run slice"; "entries past the written part keep their old values"
-  pub written : length (take n (o .run)) ≡ n
-  pub long : length (o .run) ≡ length run
-  pub rest : drop n (o .run) ≡ drop n run
-  -- n is 0 exactly when every implementation of the left satisfies the right
-  pub satisfied : (n ≡ 0) ↔ ((I : Implementation (signature (text-of left))) → Satisfies I (meaning left a)
-      → Satisfies I (right-meaning left right b))
-  -- otherwise the n steps written are made by some implementation of the left and not allowed by the right
-  pub made : 0 < n → (I : Implementation (signature (text-of left))) × Satisfies I (meaning left a)
-      × Makes I (take n (o .run)) × (Allows (right-meaning left right b) (take n (o .run)) → ⊥)
-  -- every run that an implementation of the left makes and the right does not allow has at least n steps, and there is
-  -- none where n is 0
-  pub at-least : (I : Implementation (signature (text-of left))) → Satisfies I (meaning left a) → (w : List ℕ) → Makes I w
-      → (Allows (right-meaning left right b) w → ⊥) → (0 < n) × (n ≤ length w)
-  -- n is at most left states × right states
-  pub bounded : n ≤ states left * states right
-  -- "n, the steps of a shortest [departure] or 0 if there is none"; "Of the shortest runs it writes the one smallest step
-  -- by step"; whatever set S is the left's safe states
-  pub none-left : (S : meaning left a .State → Type 0) → Largest-safe-set (meaning left a) S
-      → n ≡ 0 → No-departure (meaning left a) (right-meaning left right b) S
-  pub shortest : (S : meaning left a .State → Type 0) → Largest-safe-set (meaning left a) S
-      → 0 < n → Shortest-departure (meaning left a) (right-meaning left right b) S (take n (o .run))
-  -- "write the left's bits there"
-  pub kept : (S : meaning left a .State → Type 0) → Largest-safe-set (meaning left a) S → Keeps left a S keep (o .keep)
 
 empty : (w : List ℕ) → length w ≡ 0 → w ≡ []
 empty [] e = refl

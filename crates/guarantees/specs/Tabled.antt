@@ -39,48 +39,8 @@ use Rattle.tables.specs.declared.WidestAnswer.{WidestAnswer}
 use Rattle.tables.specs.declared.WidestAnswer.the-variants as made
 use Rattle.tables.specs.Outcome.{Checked, Widened, scanned, check-compared, check-outcome, refused, widest-compared, widest-outcome}
 use Rattle.guarantees.specs.Texts.{Accepted-text, states, meaning, right-meaning, number, right-number, Equal-channels, Consistent, Keeps, check-refusal, widest-refusal, Long-enough, Right-form, raster-of, Denotes}
+use Rattle.guarantees.specs.Demands.{Check-demand, Widest-demand}
 use Rattle.guarantees.specs.Setting.{nothing-found, same-safe, no-departure-same, refines-same, refines-alike, packed-byte, both, Left, Right, left-capping, right-capping, left-states, right-states, left-number, right-numbers, left-safe, keeps}
-
--- What is asked of the check's outcome o for a table, where keep came as `keep`.
-pub record Check-demand (left right : List ℕ) (a : Accepted-text left) (b : Accepted-text right) (keep given : List ℕ) (o : Checked) : Type 1 where
-  -- the table is accepted exactly when the relation it denotes over uncapped clocks contains the start pair and meets the
-  -- rules; S: the left's safe states
-  pub accepted : (S : meaning left a .State → Type 0) → Largest-safe-set (meaning left a) S
-      → ((n : ℕ) × (o .answer ≡ checked.Accepted n))
-      ↔ (Denotes left right a b given (meaning left a .start) (right-meaning left right b .start)
-      × Refines (meaning left a) (right-meaning left right b) S (Denotes left right a b given))
-  -- "An accepted check returns the number of pairs set, padding not counted"
-  pub count : (n : ℕ) → o .answer ≡ checked.Accepted n → n ≡ ones (denoted (states left) (states right) (raster-of left right given))
-  -- "write the left's bits there"
-  pub kept : (S : meaning left a .State → Type 0) → Largest-safe-set (meaning left a) S → Keeps left a S keep (o .keep)
-
--- What is asked of the widest table's outcome o, where keep and the table came as `keep` and `given`.
-pub record Widest-demand (left right : List ℕ) (a : Accepted-text left) (b : Accepted-text right) (keep given : List ℕ) (o : Widened) : Type 1 where
-  -- "its count and that fact are returned"
-  pub count : ℕ
-  pub start : Bool
-  pub answer : o .answer ≡ made.Made count start
-  -- the table written has the right header and length, and bytes past it keep their old values
-  pub form : Right-form left right (take (table-bytes (states right) (states left)) (o .table))
-  pub long : length (o .table) ≡ length given
-  pub rest : drop (table-bytes (states right) (states left)) (o .table) ≡ drop (table-bytes (states right) (states left)) given
-  -- it holds exactly the pairs of configurations that some relation meeting the rules holds; S: the left's safe states
-  pub pairs : (S : meaning left a .State → Type 0) → Largest-safe-set (meaning left a) S
-      → (x : meaning left a .State) (y : right-meaning left right b .State)
-      → Denotes left right a b (o .table) x y
-      ↔ ((Q : meaning left a .State → right-meaning left right b .State → Type 0)
-      × Refines (meaning left a) (right-meaning left right b) S Q × Q x y)
-  -- "Padding is ... 0 when written"
-  pub padding : (s i : ℕ) → s < states left → states right ≤ i → i < 8 * bytes (states right)
-      → set-at (states right) (raster-of left right (o .table)) s i ≡ false
-  -- the number of pairs set, and whether the start pair is one: so exactly when every implementation of the left
-  -- satisfies the right
-  pub count-is : count ≡ ones (denoted (states left) (states right) (raster-of left right (o .table)))
-  pub start-is : T start ↔ Denotes left right a b (o .table) (meaning left a .start) (right-meaning left right b .start)
-  pub start-means : T start ↔ ((I : Implementation (signature (text-of left))) → Satisfies I (meaning left a)
-      → Satisfies I (right-meaning left right b))
-  -- "write the left's bits there"
-  pub kept : (S : meaning left a .State → Type 0) → Largest-safe-set (meaning left a) S → Keeps left a S keep (o .keep)
 
 -- the chain of judgements, with a long enough keep, a table of the right form and a safe start
 record Scanned-table (keep-short : Bool) (o : Checked) (answer : CheckAnswer) (kept : List ℕ) : Type 0 where

@@ -31,6 +31,9 @@ use Rattle.tables_whole.specs.Answer.{table-file}
 use Rattle.tables.specs.declared.CheckAnswer.the-variants as checked
 use Rattle.tables.specs.declared.WidestAnswer.the-variants as made
 use Rattle.tables.specs.Outcome.{Checked, Widened, scanned, check-outcome, widest-outcome}
+use Rattle.safe_states.specs.declared.SafeAnswer.the-variants as counted
+use Rattle.safe_states.specs.Outcome.{safe-outcome}
+use Rattle.guarantees_starred.specs.Safe.{post-counted, hush-counted}
 use Rattle.guarantees_starred.specs.Opened.{opened-states, opened-pairing}
 use Rattle.guarantees_starred.specs.Posts.{reading-of, post-outcome, rearm-outcome, early-outcome, hush-outcome, idle-outcome, post-keep, rearm-keep, early-keep, hush-keep, idle-keep, post-safe, rearm-safe, early-safe, hush-safe, idle-safe}
 use Rattle.guarantees_starred.specs.Runs.{Pair, left-of, right-of, post-post-equal, early-post-equal, idle-post-equal, post-idle-equal, post-hush-equal, rearm-post-equal, hush-post-equal, post-post-run, early-post-run, idle-post-run, post-idle-run, post-hush-run, rearm-post-run}
@@ -51,7 +54,7 @@ pub record Facts (n m : ℕ) (K : List Bool) (s u : List ℕ) (l r : Text) (p : 
   pub start' : right-of p .start ≡ 0
   pub safe : safe-states (left-of p) ≡ K
 
-post-post-facts : (p : Pair post post post-record post-record) → Facts 10 10 post-keep post post post-record post-record p
+pub post-post-facts : (p : Pair post post post-record post-record) → Facts 10 10 post-keep post post post-record post-record p
 unfolding opened-states opened-pairing
 post-post-facts p = record { size = refl; size' = refl; start = refl; start' = refl; safe = post-safe (p .left-text) }
 
@@ -203,9 +206,11 @@ post-count-read = ap (λ (o : Reading). o .states) post-outcome
 
 -- the starred sentences of document 01, one field each
 pub record Starred : Type 0 where
-  -- "Post has 10 states"
+  -- "Post has 10 states, 9 safe"; its start is one
   pub post-states : read-outcome post .states ≡ 10
-  -- "Hush ... 17 as left"
+  pub post-safe : (keep : List ℕ) → 2 ≤ length keep → safe-outcome post keep .answer ≡ counted.Found 9 true
+  -- "Hush 5 safe, 17 as left"; its start is not safe
+  pub hush-safe : (keep : List ℕ) → 2 ≤ length keep → safe-outcome hush keep .answer ≡ counted.Found 5 false
   pub hush-left : (keep : List ℕ) (back line : ℕ) (run : List ℕ) → Room 10 10 0 keep back line run
       → search-outcome hush post keep back line run .answer ≡ Refused (record { code = 17; file = 1; p = 0; q = 0 })
   -- "Post against Post n = 0"
@@ -233,6 +238,8 @@ pub starred-posts : Starred
 unfolding scanned bit-at
 starred-posts = record {
   post-states = post-count-read;
+  post-safe = post-counted;
+  hush-safe = hush-counted;
   hush-left = hush-refused;
   post-post = post-post-searched;
   post-widest = post-post-made;
