@@ -5,6 +5,7 @@ crates/test_clocks gets texts on stdin, a `#` between two. crates/test_operation
 
 Each case is one call of an operation over two texts. In the file it is: the operation's letter, eight numbers of two bytes, low first
 (lengths of left, right, the given table, keep, the table to write, back, line, run), then the bytes of left, right and the given table.
+The letters: D search, L search with a right text of 65,536 bytes that the program supplies, C check, W widest table.
 Everything that is lent begins as a fixed pattern, so that what an operation leaves alone can be seen in the output.
 """
 import random
@@ -91,8 +92,8 @@ class Cases:
         self.data += letter.encode() + b"".join(n.to_bytes(2, "little") for n in (len(left), len(right), len(table), keep, room, back, line, run))
         self.data += left + right + table
         kept, made, steps = bytes([KEEP]) * keep, bytes([KEEP]) * room, [ENTRY] * run
-        if letter == "D":
-            answer, kept, steps = ref.search(left, right, kept, back, line, steps)
+        if letter in "DL":
+            answer, kept, steps = ref.search(left, right if letter == "D" else bytes(65536), kept, back, line, steps)
             answer = answer if isinstance(answer, tuple) else (answer,)
         elif letter == "C":
             answer, kept = ref.check(left, right, kept, table)
@@ -102,7 +103,7 @@ class Cases:
         parts = [letter, word, *map(str, answer), "keep", kept.hex() or "-"]
         if letter == "W":
             parts += ["table", made.hex() or "-"]
-        if letter == "D":
+        if letter in "DL":
             parts += ["run", ",".join(map(str, steps)) or "-"]
         self.lines.append(" ".join(parts))
         return answer, made
@@ -126,6 +127,8 @@ def searches(cases, count=75, most=30000, seed=1):
         cases.add("D", P["Rearm"], P["Post"], keep=keep, back=back, line=line, run=run)
     cases.add("D", P["Hush"], P["Post"], keep=2, back=99, line=100)
     cases.add("D", b"", b"")
+    cases.add("L", P["Post"], keep=2, back=100, line=100, run=2)  # the right's code 1, also before the left's 2
+    cases.add("L", b"", keep=2, run=2)
     cases.add("D", P["Post"], P["Post"][:-3], keep=2, back=100, line=100)
     cases.add("D", P["Post"], P["Post"].replace(b"late", b"tardy"), keep=2, back=100, line=100)
     cases.add("D", P["Hush"].replace(b", late", b""), P["Post"], keep=2, back=100, line=100)

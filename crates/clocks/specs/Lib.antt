@@ -9,5 +9,3 @@ pub mod Judgement
 pub mod Contract
 pub mod Results
 pub mod Encoded
-pub mod Test
-pub mod Post

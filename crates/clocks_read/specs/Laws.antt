@@ -18,13 +18,14 @@ use Rattle.clocks_bits.specs.Bits.{written}
 use Rattle.clocks_bits.specs.Packed.{packed}
 use Rattle.clocks.specs.declared.Judged.{Judged}
 use Rattle.clocks.specs.declared.Judged.the-variants.{Clean, TooMany, NoMove, TwoEdges}
-use Rattle.clocks.specs.States.{state-count, state-limit, too-many, judgement, table-entry, table-size, judged-table, invariants, judged-holds}
+use Rattle.clocks.specs.States.{state-count, too-many, judgement, table-entry, table-size, judged-table, invariants, judged-holds}
 use Rattle.clocks.specs.Accepted as accepted
 use Rattle.clocks.specs.Judgement.{judgement-few}
 use Rattle.clocks_read.specs.declared.ReadAnswer.{ReadAnswer}
 use Rattle.clocks_read.specs.declared.ReadAnswer.the-variants.{Accepted, Refused}
 use Rattle.clocks_read.specs.declared.Reading.{Reading}
 use Rattle.clocks_read.specs.Reading.{refused, judged-reading, parsed-reading, read-outcome, Loading, judged-loading, parsed-loading, load-outcome}
+use Rattle.reader_record.specs.Limits.{state-limit}
 
 -- what an accepted reading of the text s says
 pub record Read (s : List ℕ) : Type 0 where

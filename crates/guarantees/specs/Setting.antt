@@ -3,13 +3,13 @@
 use mathlib.Core.Path.{_≡_, refl, sym, ap, subst, _∙_}
 use mathlib.Core.Logic.{_↔_}
 use mathlib.Core.Bool.{Bool, true, false, cond}
-use mathlib.Core.Option.{Option, none, some}
-use mathlib.Core.List.{List, [], _∷_}
-use Prim.Native.Nat.{ℕ, _*_, _/_, _≤_, _<_}
+use mathlib.Core.Option.{Option, none}
+use mathlib.Core.List.{List}
+use Prim.Native.Nat.{ℕ, _/_, _≤_, _<_}
 use native.Mathlib.Omega.{arith}
 use lib.Seq.{drop-at}
 use lib.Dec.{T, ltb}
-use lib.ListN.{length, drop, getD, List·getD-eq-default}
+use lib.ListN.{length, drop, List·getD-eq-default}
 use borrow.Author.Tests.{ltb-false}
 use Rattle.reader_record.specs.Formed.{Well-formed}
 use Rattle.reader_record.specs.Limits.{largest-text}
@@ -18,9 +18,9 @@ use Rattle.reader_parts.specs.declared.Fault.the-variants.{TooLong}
 use Rattle.reader.specs.declared.Answer.the-variants as parsed
 use Rattle.reader.specs.declared.Parsed.{Parsed}
 use Rattle.reader.specs.Reading as reader
-use Rattle.systems.specs.Definitions.{Signature, System, Safe-set, Largest-safe-set, Run-in, stop, step, Departure, No-departure, Shortest-departure, Refines}
+use Rattle.systems.specs.Definitions.{Signature, System, Largest-safe-set, Run-in, stop, step, Departure, No-departure, Shortest-departure, Refines}
 use Rattle.systems.specs.Tests.{at, table}
-use Rattle.systems.specs.Finite.{Finite-system, Capping, Safe-at, safe, safe-states, safe-test}
+use Rattle.systems.specs.Finite.{Finite-system, Capping, Safe-at, Denoted, safe, safe-states, safe-test}
 use Rattle.clocks_bits.specs.Bits.{bit-at, byte-of, bit-of, tab-from, length-tab, written, written-at, written-length}
 use Rattle.clocks_bits.specs.Packed.{bytes, packed}
 use Rattle.clocks_safe.specs.Settle.{length-table, length-stage}
@@ -30,11 +30,12 @@ use Rattle.clocks.specs.Accepted.{Accepted}
 use Rattle.clocks.specs.States.{state-count}
 use Rattle.clocks.specs.Contract.{signature, uncapped, system, capping}
 use Rattle.clocks_read.specs.Laws.{read-accepted}
-use Rattle.pairing.specs.Channels.{left-file, right-file}
 use Rattle.pairing.specs.Equal.{nothing-when-equal}
 use Rattle.two_texts.specs.Two.{text-of, too-long-in, refused-in, refused-pairing, or-else, two-judged, step-of, Compared, left-system, right-system}
 use Rattle.two_texts.specs.Laws.{named, compared}
-use Rattle.guarantees.specs.Texts.{Accepted-text, states, meaning, right-meaning, number, right-number, Equal-channels, Keeps}
+use Rattle.tables_header.specs.Header.{header-bytes}
+use Rattle.tables_rows.specs.Raster.{set-at}
+use Rattle.guarantees.specs.Texts.{Accepted-text, states, meaning, right-meaning, number, right-number, Equal-channels, Keeps, Denotes}
 
 -- an accepted text is not too long
 not-long : (s : List ℕ) → Accepted-text s → ltb largest-text (length s) ≡ false
@@ -46,10 +47,18 @@ not-long s a = go (ltb largest-text (length s)) _ (read-accepted s a .parsed)
     go false p e = refl
 
 -- codes 1 to 12 find nothing
-pub nothing-found : (left right : List ℕ) → Accepted-text left → Accepted-text right → Equal-channels left right → none ≡ two-judged left right
+pub nothing-found : (left right : List ℕ) → Accepted-text left → Accepted-text right → Equal-channels left right
+    → none ≡ two-judged left right
 unfolding two-judged too-long-in refused-in refused-pairing or-else
 nothing-found left right a b e =
-    rw (not-long left a, not-long right b, a, b, nothing-when-equal left (text-of left) right (text-of right) (named left a) (named right b) e)
+    rw (
+      not-long left a,
+      not-long right b,
+      a,
+      b,
+      nothing-when-equal left (text-of left) right (text-of right)
+          (named left a) (named right b) e,
+    )
 
 -- the number of states that reading returns is that of the record
 pub states-are : (s : List ℕ) → Accepted-text s → states s ≡ state-count (text-of s)
@@ -77,7 +86,8 @@ run-among : {X : Type 0} {next : X → ℕ → Option X} {S Z : X → Type 0} (f
 run-among f (stop h) = stop (f _ h)
 run-among f (step h e r) = step (f _ h) e (run-among f r)
 
-pub departure-among : {A : Signature} {M N : System A} {S Z : M .State → Type 0} (f : (x : M .State) → S x → Z x) (w : List ℕ)
+pub departure-among : {A : Signature} {M N : System A} {S Z : M .State → Type 0} (f : (x : M .State) → S x → Z x)
+    (w : List ℕ)
     → Departure M N S w → Departure M N Z w
 departure-among f w d = record {
   before = d .before;
@@ -91,7 +101,8 @@ departure-among f w d = record {
 }
 
 -- departures, shortest departures and refinements do not depend on which it is
-module _ {A : Signature} {M N : System A} {S Z : M .State → Type 0} (p : Largest-safe-set M S) (q : Largest-safe-set M Z) where
+module _ {A : Signature} {M N : System A} {S Z : M .State → Type 0} (p : Largest-safe-set M S)
+    (q : Largest-safe-set M Z) where
   pub no-departure-same : No-departure M N S → No-departure M N Z
   no-departure-same n w d = n w (departure-among (λ x. same-safe p q x .1) w d)
 
@@ -130,11 +141,59 @@ packed-long n X d h = written-length (byte-of (at X)) (bytes n) d h
 
 packed-rest : (n : ℕ) (X : List Bool) (d : List ℕ) → drop (bytes n) (packed n X d) ≡ drop (bytes n) d
 unfolding packed written
-packed-rest n X d = drop-at (tab-from (byte-of (at X)) 0 (bytes n)) (drop (bytes n) d) (bytes n) (length-tab (byte-of (at X)) 0 (bytes n))
+packed-rest n X d = drop-at (tab-from (byte-of (at X)) 0 (bytes n)) (drop (bytes n) d) (bytes n)
+    (length-tab (byte-of (at X)) 0 (bytes n))
 
 pub packed-byte : (n : ℕ) (X : List Bool) (d : List ℕ) (i : ℕ) → i / 8 < bytes n → bit-at (packed n X d) i ≡ at X i
 unfolding packed
-packed-byte n X d i h = bit-of (at X) (written (byte-of (at X)) (bytes n) d) i (written-at (byte-of (at X)) (bytes n) d (i / 8) h)
+packed-byte n X d i h = bit-of (at X) (written (byte-of (at X)) (bytes n) d) i
+    (written-at (byte-of (at X)) (bytes n) d (i / 8) h)
+
+-- one accepted text: keep holds its safe states
+module _ (s : List ℕ) (a : Accepted-text s) (t : Accepted (text-of s)) where
+  abbrev pub Numbered : Finite-system (signature (text-of s))
+  Numbered = system (text-of s) t
+
+  abbrev pub one-capping : Capping (meaning s a) Numbered
+  one-capping = text-capping (text-of s) (read-accepted s a .accepted .formed) t
+
+  pub numbered-states : states s ≡ Numbered .size
+  numbered-states = unfold system in states-are s a
+
+  pub numbered-number : (x : meaning s a .State) → number s a x ≡ one-capping .cap x
+  numbered-number x = unfold text-capping capping uncapped system in refl
+
+  pub safe-length : length (safe-states Numbered) ≡ Numbered .size
+  safe-length = unfold safe-states in
+      (length-stage (safe-test Numbered) (table (Numbered .size) (Numbered .holds)) (Numbered .size)
+      ∙ length-table (Numbered .size) (Numbered .holds))
+
+  pub text-keeps : (S : meaning s a .State → Type 0) → Largest-safe-set (meaning s a) S → (keep : List ℕ)
+      → ltb (length keep) (bytes (Numbered .size)) ≡ false
+      → Keeps s a S keep (packed (Numbered .size) (safe-states Numbered) keep)
+  text-keeps S p keep f =
+      let kept = packed (Numbered .size) (safe-states Numbered) keep in
+      let room : bytes (Numbered .size) ≤ length keep = ltb-false (length keep) (bytes (Numbered .size)) f in
+      let bit : (i : ℕ) → i / 8 < bytes (Numbered .size) → bit-at kept i
+      ≡ at (safe-states Numbered) i = packed-byte (Numbered .size) (safe-states Numbered) keep in
+      record {
+        safe-bits = λ x h.
+            let q : bit-at kept (number s a x) ≡ safe Numbered (one-capping .cap x) =
+            bit (number s a x) (omega (arith, numbered-states)) ∙ ap (at (safe-states Numbered)) (numbered-number x) in
+            let i = same-safe (safe-states-largest one-capping) p x in
+            (λ t. i .0 (subst T q t), λ t. subst T (sym q) (i .1 t));
+        spare-bits = λ i h l. bit i (omega (arith, numbered-states))
+            ∙ List·getD-eq-default (safe-states Numbered) false (omega (arith, numbered-states, safe-length));
+        long = packed-long (Numbered .size) (safe-states Numbered) keep room;
+        rest = rw numbered-states (packed-rest (Numbered .size) (safe-states Numbered) keep);
+      }
+
+-- the pair of states (s, t) is set in the table k of n rows and w columns
+abbrev Set-in : List ℕ → ℕ → ℕ → ℕ → ℕ → Type 0
+Set-in k n w s t = (s < n) × (t < w) × T (set-at w (drop (header-bytes w n) k) s t)
+
+alike-at : (k : List ℕ) (n m w v s r t u : ℕ) → n ≡ m → w ≡ v → s ≡ r → t ≡ u → Set-in k n w s t ↔ Set-in k m v r u
+alike-at k n m w v s r t u en ew es et = (λ p. rw (sym en, sym ew, sym es, sym et) p, λ p. rw (en, ew, es, et) p)
 
 -- what two accepted texts with equal channels are computed on, and that it is their systems with capped clocks
 module _ (left right : List ℕ) (a : Accepted-text left) (b : Accepted-text right) (e : Equal-channels left right) where
@@ -172,25 +231,17 @@ module _ (left right : List ℕ) (a : Accepted-text left) (b : Accepted-text rig
   pub left-safe : Largest-safe-set (meaning left a) (Safe-at left-capping)
   left-safe = safe-states-largest left-capping
 
-  pub safe-length : length (safe-states Left) ≡ Left .size
-  safe-length = unfold safe-states in
-      (length-stage (safe-test Left) (table (Left .size) (Left .holds)) (Left .size) ∙ length-table (Left .size) (Left .holds))
-
   -- keep holds the left's safe states
   pub keeps : (S : meaning left a .State → Type 0) → Largest-safe-set (meaning left a) S → (keep : List ℕ)
-      → ltb (length keep) (bytes (Left .size)) ≡ false → Keeps left a S keep (packed (Left .size) (safe-states Left) keep)
-  keeps S p keep f =
-      let kept = packed (Left .size) (safe-states Left) keep in
-      let room : bytes (Left .size) ≤ length keep = ltb-false (length keep) (bytes (Left .size)) f in
-      let bit : (i : ℕ) → i / 8 < bytes (Left .size) → bit-at kept i ≡ at (safe-states Left) i = packed-byte (Left .size) (safe-states Left) keep in
-      record {
-        safe-bits = λ x h.
-            let n = left-number x in
-            let q : bit-at kept (number left a x) ≡ safe Left (left-capping .cap x) =
-            bit (number left a x) (omega (arith, left-states)) ∙ ap (at (safe-states Left)) n in
-            let i = same-safe left-safe p x in
-            (λ t. i .0 (subst T q t), λ t. subst T (sym q) (i .1 t));
-        spare-bits = λ i h l. bit i (omega (arith, left-states)) ∙ List·getD-eq-default (safe-states Left) false (omega (arith, left-states, safe-length));
-        long = packed-long (Left .size) (safe-states Left) keep room;
-        rest = rw left-states (packed-rest (Left .size) (safe-states Left) keep);
-      }
+      → ltb (length keep) (bytes (Left .size)) ≡ false
+      → Keeps left a S keep (packed (Left .size) (safe-states Left) keep)
+  keeps = text-keeps left a (both .left-text)
+
+  -- what a table denotes, by the numbers of the computed systems
+  pub denotes-alike : (k : List ℕ) (x : meaning left a .State) (y : right-meaning left right b .State)
+      → Denoted left-capping right-capping (set-at (Right .size) (drop (header-bytes (Right .size) (Left .size)) k))
+      x y ↔ Denotes left right a b k x y
+  denotes-alike k x y =
+      alike-at k (Left .size) (states left) (Right .size) (states right) (left-capping .cap x) (number left a x)
+      (right-capping .cap y) (right-number left right b y)
+      (sym left-states) (sym right-states) (sym (left-number x)) (sym (right-numbers y))

@@ -6,7 +6,7 @@ use Prim.Native.Nat.{ℕ, _*_, _≤_, _<_}
 use lib.Dec.{T}
 use lib.ListN.{length, drop}
 use mathlib.Core.Logic.{_↔_}
-use mathlib.Core.Bool.{Bool, false}
+use mathlib.Core.Bool.{false}
 use Rattle.refusals.specs.declared.Refusal.{Refusal}
 use Rattle.systems.specs.Definitions.{System, Implementation, Satisfies}
 use Rattle.systems.specs.Renumbered.{renumbered-system}
@@ -21,6 +21,8 @@ use Rattle.pairing.specs.Channels as channels
 use Rattle.two_texts.specs.Two.{text-of, step-of}
 use Rattle.tables_header.specs.Header.{header-bytes, fits}
 use Rattle.tables_rows.specs.Raster.{set-at}
+use Rattle.safe_states.specs.declared.SafeAnswer.{SafeAnswer}
+use Rattle.safe_states.specs.declared.SafeAnswer.the-variants as safe
 use Rattle.search.specs.declared.SearchAnswer.{SearchAnswer}
 use Rattle.search.specs.declared.SearchAnswer.the-variants as search
 use Rattle.tables.specs.declared.CheckAnswer.{CheckAnswer}
@@ -74,6 +76,10 @@ unfoldable pub widest-refusal : WidestAnswer → Option Refusal
 widest-refusal (widest.Made n b) = none
 widest-refusal (widest.Refused r) = some r
 
+unfoldable pub safe-refusal : SafeAnswer → Option Refusal
+safe-refusal (safe.Found n b) = none
+safe-refusal (safe.Refused r) = some r
+
 -- no refusal with this code is given
 abbrev pub Without : ℕ → Option Refusal → Type 0
 Without code o = (r : Refusal) → o ≡ some r → r .code ≡ code → ⊥
@@ -87,7 +93,8 @@ pub record Long-enough (o : Option Refusal) : Type 0 where
 
 -- "one bit per state into the keep slice, state 0 in the high bit of byte 0, spare bits 0": the bit of a configuration's
 -- state says whether it is in S, the safe states; later bytes are as they were
-pub record Keeps (s : List ℕ) (a : Accepted-text s) (S : meaning s a .State → Type 0) (before after : List ℕ) : Type 0 where
+pub record Keeps (s : List ℕ) (a : Accepted-text s) (S : meaning s a .State → Type 0) (before after : List ℕ) : Type
+    0 where
   pub safe-bits : (x : meaning s a .State) → number s a x < states s → T (bit-at after (number s a x)) ↔ S x
   pub spare-bits : (i : ℕ) → states s ≤ i → i < 8 * bytes (states s) → bit-at after i ≡ false
   pub long : length after ≡ length before

@@ -2,7 +2,7 @@
 use Rattle.systems.specs.Tests.{all, any}
 use Rattle.systems.specs.Compute.{opened-fast}
 use Rattle.systems.specs.Renumbered.{renumbered}
-use Rattle.reader_record.specs.Record.{channel, direction-of, comparison, edge, invariant-of}
+use Rattle.reader_record.specs.Record.{channel}
 use Rattle.reader_tokens.specs.Scan.{agree as letters-agree, same}
 use Rattle.reader_constraints.specs.Constraints.{no-constraint}
 use Rattle.reader_lists.specs.State.{no-edge}
@@ -12,13 +12,16 @@ use Rattle.clocks.specs.Contract.{signature, system}
 use Rattle.pairing.specs.Channels.{alike, first-from, lowest, partner, agree, matched, first-unmatched, verdict, unmatched, right-step}
 
 unfoldable pub opened-states : Unit {0}
-unfolding all any no-constraint no-edge channel value compares met holds invariant reset after one-if also gives edge-move edge-moves ticked tick-move moves start-of most constant
-    largest-in largest values ranges state-count cap state config leads state-moves next state-invariant start-state is-input input too-many or-else
+unfolding all any no-constraint no-edge channel value compares met holds invariant reset after one-if also gives
+    edge-move edge-moves ticked tick-move moves start-of most constant
+    largest-in largest values ranges state-count cap state config leads state-moves next state-invariant start-state
+    is-input input too-many or-else
     first-fault fault step-fault state-fault judged judgement signature system
 opened-states = tt
 
 unfoldable pub opened-pairing : Unit {0}
-unfolding letters-agree same alike first-from lowest partner agree matched first-unmatched verdict unmatched right-step renumbered
+unfolding letters-agree same alike first-from lowest partner agree matched first-unmatched verdict unmatched
+    right-step renumbered
 opened-pairing = tt
 
 unfoldable pub opened : Unit {0}

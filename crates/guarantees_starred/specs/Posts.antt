@@ -1,5 +1,5 @@
 -- The five texts, read and judged: accepted, and the safe states of each, computed.
-use mathlib.Core.Path.{_≡_, refl, sym, ap, subst, _∙_}
+use mathlib.Core.Path.{_≡_, refl, sym, ap, _∙_}
 use mathlib.Core.Bool.{Bool, true, false}
 use mathlib.Core.List.{List, [], _∷_}
 use Prim.Native.Nat.{ℕ}
@@ -25,7 +25,8 @@ use Rattle.guarantees_starred.specs.Opened.{opened-states, opened}
 abbrev pub reading-of : Text → Reading
 reading-of t = record { answer = read.Accepted; text = t; states = state-count t }
 
-pub read-known : (s : List ℕ) (t : Text) → read-text s ≡ record { answer = parsed.Accepted; text = t } → judgement t ≡ Clean
+pub read-known : (s : List ℕ) (t : Text) → read-text s ≡ record { answer = parsed.Accepted; text = t } → judgement t
+    ≡ Clean
     → read-outcome s ≡ reading-of t
 unfolding read-outcome parsed-reading judged-reading
 read-known s t e c = ap (λ (p : Parsed). parsed-reading (p .answer) (p .text)) e ∙ rw c

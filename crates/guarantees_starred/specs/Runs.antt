@@ -1,29 +1,18 @@
 -- Two of the five texts together: their systems as the operations compute on them, and the runs, tables and checks computed.
-use mathlib.Core.Path.{_≡_, refl, sym, ap, subst, _∙_}
-use mathlib.Core.Bool.{Bool, true, false, not, _&&_, cond}
-use mathlib.Core.List.{List, [], _∷_, _++_}
-use Prim.Native.Nat.{ℕ, suc}
-use lib.ListN.{length, drop}
-use Rattle.systems.specs.Tests.{at, ones, least}
-use Rattle.systems.specs.Definitions.{Signature, Input}
-use Rattle.systems.specs.Finite.{Finite-system, safe-states, search-run, widest, if-in, pruned, step-ok}
+use mathlib.Core.Path.{_≡_, refl}
+use mathlib.Core.List.{List, [], _∷_}
+use Prim.Native.Nat.{ℕ}
+use Rattle.systems.specs.Definitions.{Input}
+use Rattle.systems.specs.Finite.{Finite-system, search-run}
 use Rattle.systems.specs.Renumbered.{renumbered}
-use Rattle.systems.specs.Compute.{widest-by, search-by}
+use Rattle.systems.specs.Compute.{search-by}
 use Rattle.reader_record.specs.declared.Text.{Text}
 use Rattle.reader_examples.specs.Texts.{post, rearm, early, hush, idle}
 use Rattle.reader_examples.specs.Records.{post-record, rearm-record, early-record, hush-record, idle-record}
 use Rattle.clocks.specs.Accepted.{Accepted}
 use Rattle.clocks.specs.Contract.{signature, system}
-use Rattle.clocks_bits.specs.Bits.{bit-at}
 use Rattle.pairing.specs.Channels.{unmatched, right-step}
 use Rattle.pairing.specs.declared.Matched.the-variants.{Equal}
-use Rattle.tables_check.specs.Fault.{step-fault, picked, row-from, table-from}
-use Rattle.tables_check.specs.declared.Fault.{Fault}
-use Rattle.tables_check.specs.declared.Fault.the-variants.{Fine, NotAllowed}
-use Rattle.tables_check.specs.declared.Found.{Found}
-use Rattle.tables_check.specs.declared.Found.the-variants.{Passed, BrokenAt}
-use Rattle.tables_check.specs.Judged.{breaks, least-broken, pair-fault, judged}
-use Rattle.tables_rows.specs.Raster.{set-at, denoted}
 use Rattle.guarantees_starred.specs.Opened.{opened-states, opened-pairing, opened}
 use Rattle.guarantees_starred.specs.Posts.{post-keep, post-safe, rearm-keep, rearm-safe, early-keep, early-safe, idle-keep, idle-safe}
 
@@ -73,22 +62,27 @@ pub post-post-run : (p : Pair post post post-record post-record) → search-run 
 unfolding opened
 post-post-run p = search-by (left-of p) (right-of p) post-keep (post-safe (p .left-text)) tt
 
-pub early-post-run : (p : Pair early post early-record post-record) → search-run (left-of p) (right-of p) ≡ 0 ∷ 0 ∷ 3 ∷ []
+pub early-post-run : (p : Pair early post early-record post-record) → search-run (left-of p) (right-of p)
+    ≡ 0 ∷ 0 ∷ 3 ∷ []
 unfolding opened
 early-post-run p = search-by (left-of p) (right-of p) early-keep (early-safe (p .left-text)) tt
 
-pub idle-post-run : (p : Pair idle post idle-record post-record) → search-run (left-of p) (right-of p) ≡ 0 ∷ 0 ∷ 0 ∷ 0 ∷ []
+pub idle-post-run : (p : Pair idle post idle-record post-record) → search-run (left-of p) (right-of p)
+    ≡ 0 ∷ 0 ∷ 0 ∷ 0 ∷ []
 unfolding opened
 idle-post-run p = search-by (left-of p) (right-of p) idle-keep (idle-safe (p .left-text)) tt
 
-pub post-idle-run : (p : Pair post idle post-record idle-record) → search-run (left-of p) (right-of p) ≡ 0 ∷ 0 ∷ 0 ∷ 3 ∷ []
+pub post-idle-run : (p : Pair post idle post-record idle-record) → search-run (left-of p) (right-of p)
+    ≡ 0 ∷ 0 ∷ 0 ∷ 3 ∷ []
 unfolding opened
 post-idle-run p = search-by (left-of p) (right-of p) post-keep (post-safe (p .left-text)) tt
 
-pub post-hush-run : (p : Pair post hush post-record hush-record) → search-run (left-of p) (right-of p) ≡ 0 ∷ 0 ∷ 0 ∷ 3 ∷ []
+pub post-hush-run : (p : Pair post hush post-record hush-record) → search-run (left-of p) (right-of p)
+    ≡ 0 ∷ 0 ∷ 0 ∷ 3 ∷ []
 unfolding opened
 post-hush-run p = search-by (left-of p) (right-of p) post-keep (post-safe (p .left-text)) tt
 
-pub rearm-post-run : (p : Pair rearm post rearm-record post-record) → search-run (left-of p) (right-of p) ≡ 0 ∷ 0 ∷ 0 ∷ 2 ∷ 0 ∷ []
+pub rearm-post-run : (p : Pair rearm post rearm-record post-record) → search-run (left-of p) (right-of p)
+    ≡ 0 ∷ 0 ∷ 0 ∷ 2 ∷ 0 ∷ []
 unfolding opened
 rearm-post-run p = search-by (left-of p) (right-of p) rearm-keep (rearm-safe (p .left-text)) tt

@@ -1,9 +1,8 @@
 -- The safe-state operation on the texts' bytes.
-use mathlib.Core.Path.{_≡_, refl, sym, ap, subst, _∙_}
+use mathlib.Core.Path.{_≡_, ap, subst, _∙_}
 use mathlib.Core.Bool.{Bool, true, false}
-use mathlib.Core.List.{List, [], _∷_}
+use mathlib.Core.List.{List}
 use Prim.Native.Nat.{ℕ, _≤_}
-use native.Mathlib.Omega.{arith}
 use lib.Dec.{ltb}
 use lib.ListN.{length}
 use borrow.Author.Tests.{le-ltb}
@@ -21,7 +20,6 @@ use Rattle.clocks_bits.specs.Packed.{bytes}
 use Rattle.clocks_read.specs.declared.Reading.{Reading}
 use Rattle.clocks_read.specs.Reading.{read-outcome}
 use Rattle.clocks_read.specs.Laws.{read-accepted}
-use Rattle.safe_states.specs.declared.SafeAnswer.{SafeAnswer}
 use Rattle.safe_states.specs.declared.SafeAnswer.the-variants.{Found}
 use Rattle.safe_states.specs.Outcome.{Outcome, found-outcome, kept-outcome, answered, safe-outcome}
 use Rattle.guarantees_starred.specs.Opened.{opened-states}
@@ -33,14 +31,16 @@ safe-found : (s : List ℕ) (t : Text) (K : List Bool) → read-outcome s ≡ re
     → safe-outcome s keep .answer ≡ Found (ones K) (at K (start-state t))
 unfolding safe-outcome answered kept-outcome found-outcome
 safe-found s t K e f keep h =
-    let a : Accepted t = subst Accepted (ap (λ (o : Reading). o .text) e) (read-accepted s (ap (λ (o : Reading). o .answer) e) .accepted) in
+    let a : Accepted t = subst Accepted (ap (λ (o : Reading). o .text) e)
+    (read-accepted s (ap (λ (o : Reading). o .answer) e) .accepted) in
     let k : safe-states t ≡ K = safe-states-same t a ∙ f a in
     let l : ltb (length keep) (bytes (state-count t)) ≡ false = le-ltb (length keep) (bytes (state-count t)) h in
     ap (λ (o : Reading). answered (o .answer) (o .text) keep .answer) e
     ∙ ap (λ (o : Outcome). o .answer) (long t keep l)
     ∙ ap (λ (X : List Bool). Found (ones X) (at X (start-state t))) k
   where
-    long : (t : Text) (keep : List ℕ) → ltb (length keep) (bytes (state-count t)) ≡ false → kept-outcome t keep ≡ found-outcome t keep
+    long : (t : Text) (keep : List ℕ) → ltb (length keep) (bytes (state-count t)) ≡ false → kept-outcome t keep
+        ≡ found-outcome t keep
     long t keep l = rw (l, kept-outcome)
 
 -- "Post has 10 states, 9 safe"; "Hush 5 safe"

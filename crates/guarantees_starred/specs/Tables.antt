@@ -1,10 +1,8 @@
 -- The tables of the posts: the widest ones, and the checks of two given ones, computed.
-use mathlib.Core.Path.{_≡_, refl, sym, ap, subst, _∙_}
+use mathlib.Core.Path.{_≡_, refl, ap}
 use mathlib.Core.Bool.{Bool, true, false, not, _&&_, cond}
 use mathlib.Core.List.{List, [], _∷_, _++_}
 use Prim.Native.Nat.{ℕ, suc}
-use Prim.Native.String.{String}
-use lib.ListN.{length, drop}
 use Rattle.systems.specs.Tests.{at, ones, table, sieve, least}
 use Rattle.systems.specs.Definitions.{Signature}
 use Rattle.systems.specs.Finite.{Finite-system, safe-states, widest, if-in, pruned, step-ok}
@@ -50,15 +48,15 @@ ten-by-ten r = ascii "P4\n10 10\n" ++ r
 -- the widest table of Post against Post, row after row
 abbrev pub post-pairs : List Bool
 post-pairs =
-    true ∷ false ∷ false ∷ false ∷ false ∷ false ∷ false ∷ false ∷ false ∷ false ∷ 
-    false ∷ true ∷ false ∷ false ∷ false ∷ false ∷ false ∷ false ∷ false ∷ false ∷ 
-    false ∷ false ∷ true ∷ false ∷ false ∷ false ∷ false ∷ false ∷ false ∷ false ∷ 
-    false ∷ false ∷ false ∷ true ∷ false ∷ false ∷ false ∷ false ∷ false ∷ false ∷ 
-    false ∷ false ∷ false ∷ false ∷ false ∷ false ∷ false ∷ false ∷ false ∷ false ∷ 
-    false ∷ false ∷ false ∷ false ∷ false ∷ true ∷ true ∷ true ∷ true ∷ true ∷ 
-    false ∷ false ∷ false ∷ false ∷ false ∷ true ∷ true ∷ true ∷ true ∷ true ∷ 
-    false ∷ false ∷ false ∷ false ∷ false ∷ true ∷ true ∷ true ∷ true ∷ true ∷ 
-    false ∷ false ∷ false ∷ false ∷ false ∷ true ∷ true ∷ true ∷ true ∷ true ∷ 
+    true ∷ false ∷ false ∷ false ∷ false ∷ false ∷ false ∷ false ∷ false ∷ false ∷
+    false ∷ true ∷ false ∷ false ∷ false ∷ false ∷ false ∷ false ∷ false ∷ false ∷
+    false ∷ false ∷ true ∷ false ∷ false ∷ false ∷ false ∷ false ∷ false ∷ false ∷
+    false ∷ false ∷ false ∷ true ∷ false ∷ false ∷ false ∷ false ∷ false ∷ false ∷
+    false ∷ false ∷ false ∷ false ∷ false ∷ false ∷ false ∷ false ∷ false ∷ false ∷
+    false ∷ false ∷ false ∷ false ∷ false ∷ true ∷ true ∷ true ∷ true ∷ true ∷
+    false ∷ false ∷ false ∷ false ∷ false ∷ true ∷ true ∷ true ∷ true ∷ true ∷
+    false ∷ false ∷ false ∷ false ∷ false ∷ true ∷ true ∷ true ∷ true ∷ true ∷
+    false ∷ false ∷ false ∷ false ∷ false ∷ true ∷ true ∷ true ∷ true ∷ true ∷
     false ∷ false ∷ false ∷ false ∷ false ∷ true ∷ true ∷ true ∷ true ∷ true ∷ []
 
 pub post-widest : (p : Pair post post post-record post-record) → widest (left-of p) (right-of p) ≡ post-pairs
@@ -93,7 +91,8 @@ rearm-count p = ap ones (widest-by (left-of p) (right-of p) rearm-keep (rearm-sa
 
 pub rearm-start : (p : Pair rearm post rearm-record post-record) → at (widest (left-of p) (right-of p)) 0 ≡ false
 unfolding opened
-rearm-start p = ap (λ (X : List Bool). at X 0) (widest-by (left-of p) (right-of p) rearm-keep (rearm-safe (p .left-text)))
+rearm-start p = ap (λ (X : List Bool). at X 0)
+    (widest-by (left-of p) (right-of p) rearm-keep (rearm-safe (p .left-text)))
 
 -- the check with the left's safe states handed over
 module _ {A : Signature} (L R : Finite-system A) (X : ℕ → ℕ → Bool) where
@@ -116,11 +115,13 @@ unfoldable pub opened-check : Unit {0}
 unfolding opened broken-with fault-with judged-with step-fault picked row-from table-from bit-at
 opened-check = tt
 
-pub diagonal-judged : (p : Pair post post post-record post-record) → judged (left-of p) (right-of p) (set-at 10 diagonal-raster) ≡ Passed
+pub diagonal-judged : (p : Pair post post post-record post-record)
+    → judged (left-of p) (right-of p) (set-at 10 diagonal-raster) ≡ Passed
 unfolding opened-check
 diagonal-judged p = judged-by (left-of p) (right-of p) (set-at 10 diagonal-raster) post-keep (post-safe (p .left-text))
 
-pub start-judged : (p : Pair post post post-record post-record) → judged (left-of p) (right-of p) (set-at 10 start-raster) ≡ BrokenAt 0 0 0
+pub start-judged : (p : Pair post post post-record post-record)
+    → judged (left-of p) (right-of p) (set-at 10 start-raster) ≡ BrokenAt 0 0 0
 unfolding opened-check
 start-judged p = judged-by (left-of p) (right-of p) (set-at 10 start-raster) post-keep (post-safe (p .left-text))
 

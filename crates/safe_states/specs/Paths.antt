@@ -15,7 +15,7 @@ use Rattle.reader_record.specs.declared.Text.{Text}
 use Rattle.clocks_bits.specs.Bits.{tab-from, bit-at, written}
 use Rattle.clocks_bits.specs.Packed.{bytes, Packed, packed, packed-bit, packed-length, Bitmap}
 use Rattle.clocks_bits.specs.Moves.{Bounded}
-use Rattle.clocks.specs.States.{state-count, state-limit, start-state, input, table-entry, table-size, table-limit, invariants, bytes-limit}
+use Rattle.clocks.specs.States.{state-count, start-state, input, table-entry, table-size, table-limit, invariants, bytes-limit}
 use Rattle.clocks.specs.Safe.{safe-states}
 use Rattle.clocks.specs.Accepted.{Accepted}
 use Rattle.clocks.specs.Judgement.{judgement-few}
@@ -30,6 +30,7 @@ use Rattle.clocks_read.specs.Laws.{read-accepted, load-reading, load-moves, loa
 use Rattle.clocks_read.specs.Paths.{loading}
 use Rattle.safe_states.specs.declared.SafeAnswer.the-variants.{Found, Refused}
 use Rattle.safe_states.specs.Outcome.{Outcome, refused, found-outcome, kept-outcome, answered, safe-outcome}
+use Rattle.reader_record.specs.Limits.{state-limit}
 
 -- the slices are filled for the accepted text t, and keep is long enough
 pub record Ready (t : Text) (n : ℕ) (moves holds keep : List ℕ) : Type 0 where

@@ -13,9 +13,9 @@ use Rattle.systems.specs.Tests.{at}
 use Rattle.systems.specs.Definitions.{Signature}
 use Rattle.systems.specs.Finite.{Finite-system, safe-states, pruned, if-in}
 use Rattle.clocks_bits.specs.Bits.{bit-at, written, written-at, written-length, less}
-use Rattle.clocks_bits.specs.Moves.{target, decode, decode-none, decode-some, Bounded, Encodes}
+use Rattle.clocks_bits.specs.Moves.{target, decode, decode-none, decode-some, Bounded, Encodes, no-move}
 use Rattle.clocks_bits.specs.Packed.{Packed, packed-bit}
-use Rattle.search_prune.specs.Prune.{no-move, kept-of, Pruned}
+use Rattle.search_prune.specs.Prune.{kept-of, Pruned}
 
 module _ (p : ℕ → Bool) (t : ℕ) where
   pub kept-none : t ≡ no-move → kept-of p t ≡ no-move

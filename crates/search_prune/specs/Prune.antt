@@ -5,12 +5,8 @@ use Prim.Native.Nat.{ℕ}
 use lib.Dec.{eqb}
 use Rattle.systems.specs.Definitions.{Signature}
 use Rattle.systems.specs.Finite.{Finite-system, safe-states, pruned}
-use Rattle.clocks_bits.specs.Moves.{Bounded, Encodes}
+use Rattle.clocks_bits.specs.Moves.{Bounded, Encodes, no-move}
 use Rattle.clocks_bits.specs.Packed.{Packed}
-
--- no move, in a table of moves
-abbrev pub no-move : ℕ
-no-move = 65535
 
 -- the move to t, if p lets t pass
 unfoldable pub kept-of : (ℕ → Bool) → ℕ → ℕ

@@ -2,9 +2,9 @@ ghost use mathlib.Core.Path.{_≡_};
 ghost use Prim.Native.Nat.{_/_, _≤_, _<_};
 ghost use lib.ListN.{length};
 ghost use Rattle.clocks_bits.specs.Bits.{bit-at};
-ghost use Rattle.clocks_bits.specs.Moves.{Bounded};
+ghost use Rattle.clocks_bits.specs.Moves.{Bounded, no-move};
 ghost use Rattle.clocks_bits.specs.Packed.{bytes};
-ghost use Rattle.search_prune.specs.Prune.{no-move, kept-of, Pruned};
+ghost use Rattle.search_prune.specs.Prune.{kept-of, Pruned};
 
 // No move, in a table of moves.
 const NO_MOVE: u16 = 65535;

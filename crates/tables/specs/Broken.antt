@@ -1,7 +1,7 @@
 -- A pair that breaks a rule is one of the table's, so its number is no larger than the number of all pairs.
-use mathlib.Core.Path.{_≡_, refl, sym, ap, _∙_}
-use mathlib.Core.Logic.{_⊎_, inl, inr, ⊎-elim}
-use mathlib.Core.Bool.{Bool, true, false, not, cond}
+use mathlib.Core.Path.{_≡_, sym, _∙_}
+use mathlib.Core.Logic.{⊎-elim}
+use mathlib.Core.Bool.{Bool, true, false, cond}
 use mathlib.Core.List.{List}
 use Prim.Native.Nat.{ℕ, _+_, _*_, _≤_, _<_}
 use native.Mathlib.Nat.{mul-le-mul-right}
@@ -24,7 +24,8 @@ abbrev pub In-table : ℕ → ℕ → TableAnswer → Type 0
 In-table n w a = (c s t : ℕ) → a ≡ told.Broken c s t → (s < n) × (t < w)
 
 -- its number is no larger than that of all pairs
-pub broken-few : (n w : ℕ) (a : TableAnswer) → In-table n w a → n ≤ 4096 → w ≤ 4096 → (c s t : ℕ) → a ≡ told.Broken c s t → s * w + t < 16777216
+pub broken-few : (n w : ℕ) (a : TableAnswer) → In-table n w a → n ≤ 4096 → w ≤ 4096 → (c s t : ℕ)
+    → a ≡ told.Broken c s t → s * w + t < 16777216
 broken-few n w a I h k c s t e =
     let (i, j) = I c s t e in
     let l : s ≤ 4095 = omega arith in
@@ -45,10 +46,12 @@ picked-in (Broken b) n w s t c i j h k e =
 found-in : (f : ℕ → ℕ → Fault) (n w c i j : ℕ) → table-from f w n 0 ≡ BrokenAt c i j → (i < n) × (j < w)
 found-in f n w c i j e =
     ⊎-elim (λ (p, q). absurd (passed-broken c i j (sym p ∙ e)))
-    (λ (l : Lowest-fault f n w (table-from f w n 0)). picked-in (f (l .s) (l .t)) n w (l .s) (l .t) c i j (l .row-in) (l .column-in) (sym (l .named) ∙ e))
+    (λ (l : Lowest-fault f n w (table-from f w n 0)). picked-in (f (l .s) (l .t)) n w (l .s) (l .t) c i j (l .row-in)
+    (l .column-in) (sym (l .named) ∙ e))
     (scan-told f n w)
 
-answer-broken : (b : Bool) (f : Found) (m c s t : ℕ) → cond b (answer-of f m) told.StartNotSet ≡ told.Broken c s t → f ≡ BrokenAt c s t
+answer-broken : (b : Bool) (f : Found) (m c s t : ℕ) → cond b (answer-of f m) told.StartNotSet ≡ told.Broken c s t
+    → f ≡ BrokenAt c s t
 unfolding answer-of
 answer-broken true Passed m c s t e = let z : _≡_ {A = ℕ} 0 1 = cc in absurd (omega arith)
 answer-broken true (NotAllowedAt i j) m c s t e = let z : _≡_ {A = ℕ} 0 1 = cc in absurd (omega arith)

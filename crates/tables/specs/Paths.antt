@@ -68,10 +68,12 @@ cond-record false x y keep = refl
 
 -- for all texts that the slices hold the outcome is document 01's
 abbrev pub Checks : Two → List ℕ → List ℕ → List ℕ → List ℕ → List ℕ → List ℕ → Checked → Type 0
-Checks t lm rm lh rh keep table o = (left right : List ℕ) (c : Compared left right) → Loaded c lm rm lh rh t → o ≡ check-compared c keep table
+Checks t lm rm lh rh keep table o =
+    (left right : List ℕ) (c : Compared left right) → Loaded c lm rm lh rh t → o ≡ check-compared c keep table
 
 abbrev pub Widens : Two → List ℕ → List ℕ → List ℕ → List ℕ → List ℕ → List ℕ → Widened → Type 0
-Widens t lm rm lh rh keep table o = (left right : List ℕ) (c : Compared left right) → Loaded c lm rm lh rh t → o ≡ widest-compared c keep table
+Widens t lm rm lh rh keep table o =
+    (left right : List ℕ) (c : Compared left right) → Loaded c lm rm lh rh t → o ≡ widest-compared c keep table
 
 abbrev pub checked : CheckAnswer → List ℕ → Checked
 checked answer keep = record { answer = answer; keep = keep }
@@ -99,7 +101,8 @@ module _ {A : Signature} (L R : Finite-system A) (keep table : List ℕ) where
       cond (ltb (length keep) (bytes n)) (refused (keep-too-short (bytes n)) keep table)
       (cond (ltb (length table) (table-bytes w n)) (refused (table-too-short (table-bytes w n)) keep table)
       (cond (not (safe L ls)) (refused (start-not-safe ls) kept table)
-      (widened (made.Made (ones pairs) (cell L R pairs (L .start) (R .start))) kept (table-file n w pairs ++ drop (table-bytes w n) table))))
+      (widened (made.Made (ones pairs) (cell L R pairs (L .start) (R .start))) kept
+      (table-file n w pairs ++ drop (table-bytes w n) table))))
 
 module _ {left right : List ℕ} (c : Compared left right) {lm rm lh rh : List ℕ} {t : Two} (D : Loaded c lm rm lh rh t) where
   abbrev L : Finite-system (signature (text-of left))
@@ -166,7 +169,8 @@ module _ (w n a : ℕ) (table : List ℕ) (e : a ≡ header-bytes w n) where
 
 -- the paths of the check
 module _ (t : Two) (lm rm lh rh keep table : List ℕ) where
-  pub check-keep-short : (a : CheckAnswer) → a ≡ check.Refused (refusal 13 0 (bytes (t .«left_states»)) 0) → length keep < bytes (t .«left_states»)
+  pub check-keep-short : (a : CheckAnswer) → a ≡ check.Refused (refusal 13 0 (bytes (t .«left_states»)) 0)
+      → length keep < bytes (t .«left_states»)
       → Checks t lm rm lh rh keep table (checked a keep)
   unfolding check-by
   check-keep-short a e h left right c D =
@@ -177,7 +181,8 @@ module _ (t : Two) (lm rm lh rh keep table : List ℕ) where
     check-long : ltb (length keep) (bytes (t .«left_states»)) ≡ false
     check-long = le-ltb (length keep) (bytes (t .«left_states»)) long
 
-    pub check-other : (a : CheckAnswer) (b : Bool) → a ≡ check.Refused (refusal 16 0 0 0) → b ≡ fits (t .«right_states») (t .«left_states») table → not b ≡ true
+    pub check-other : (a : CheckAnswer) (b : Bool) → a ≡ check.Refused (refusal 16 0 0 0)
+        → b ≡ fits (t .«right_states») (t .«left_states») table → not b ≡ true
         → Checks t lm rm lh rh keep table (checked a keep)
     unfolding check-by
     check-other a b e f n left right c D =
@@ -193,7 +198,8 @@ module _ (t : Two) (lm rm lh rh keep table : List ℕ) where
           → Checks t lm rm lh rh keep table (checked a keep′)
       unfolding check-by
       check-not-safe a e s left right c D =
-          rw (e, is-kept c D P) (rw (check-long, fitting, is-safe c D P false (not-true start s)) refl ∙ sym (check-is c D keep table))
+          rw (e, is-kept c D P) (rw (check-long, fitting, is-safe c D P false (not-true start s)) refl ∙ sym
+          (check-is c D keep table))
 
       pub check-scanned : (a : CheckAnswer) (r : TableAnswer) (k : List ℕ) → not start ≡ false
           → k ≡ drop (header-bytes (t .«right_states») (t .«left_states»)) table
@@ -218,12 +224,14 @@ module _ (t : Two) (lm rm lh rh keep table : List ℕ) where
           ∙ ap (λ (x : Bool). cond x (answer-of found count) told.StartNotSet) same)
           ∙ checked-of w ls rs (set-at w raster ls rs) found count in
           rw (answered, is-kept c D P)
-          (cond-record (not (set-at w raster ls rs)) (check.Refused (start-pair-not-set ls rs)) (scanned w count found) (packed (t .«left_states») (safe-states L) keep)
+          (cond-record (not (set-at w raster ls rs)) (check.Refused (start-pair-not-set ls rs))
+          (scanned w count found) (packed (t .«left_states») (safe-states L) keep)
           ∙ rw (check-long, fitting, is-safe c D P true (not-false start s)) refl ∙ sym (check-is c D keep table))
 
 -- the paths of the widest table
 module _ (t : Two) (lm rm lh rh keep table : List ℕ) where
-  pub widest-keep-short : (a : WidestAnswer) → a ≡ made.Refused (refusal 13 0 (bytes (t .«left_states»)) 0) → length keep < bytes (t .«left_states»)
+  pub widest-keep-short : (a : WidestAnswer) → a ≡ made.Refused (refusal 13 0 (bytes (t .«left_states»)) 0)
+      → length keep < bytes (t .«left_states»)
       → Widens t lm rm lh rh keep table (widened a keep table)
   unfolding widest-by
   widest-keep-short a e h left right c D =
@@ -249,7 +257,8 @@ module _ (t : Two) (lm rm lh rh keep table : List ℕ) where
           → Widens t lm rm lh rh keep table (widened a keep′ table)
       unfolding widest-by
       widest-not-safe a e s left right c D =
-          rw (e, is-kept c D P) (rw (widest-long, table-long, is-safe c D P false (not-true start s)) refl ∙ sym (widest-is c D keep table))
+          rw (e, is-kept c D P) (rw (widest-long, table-long, is-safe c D P false (not-true start s)) refl ∙ sym
+          (widest-is c D keep table))
 
       pub widest-made : (table′ : List ℕ) (count : ℕ) (b : Bool) → not start ≡ false
           → Makes keep′ rh lm′ rm (t .«left_states») (t .«right_states») (t .steps) (t .«left_start») (t .«right_start») table table′ count b
@@ -262,25 +271,31 @@ module _ (t : Two) (lm rm lh rh keep table : List ℕ) where
 
 -- the whole operations, once two texts are loaded
 module _ (left right lm rm lh rh : List ℕ) (t : Two) (O : Loads left right lm rm lh rh t) (keep table : List ℕ) where
-  pub check-refused : (r : Refusal) → t .answer ≡ two.Refused r → checked (check.Refused r) keep ≡ check-outcome left right keep table
+  pub check-refused : (r : Refusal) → t .answer ≡ two.Refused r
+      → checked (check.Refused r) keep ≡ check-outcome left right keep table
   unfolding check-outcome
   check-refused r e =
-      by-refusal left right lm rm lh rh t O (λ r. checked (check.Refused r) keep) (λ e. check-compared (compared left right e) keep table) r e
+      by-refusal left right lm rm lh rh t O (λ r. checked (check.Refused r) keep)
+      (λ e. check-compared (compared left right e) keep table) r e
 
-  pub widest-refused : (r : Refusal) → t .answer ≡ two.Refused r → widened (made.Refused r) keep table ≡ widest-outcome left right keep table
+  pub widest-refused : (r : Refusal) → t .answer ≡ two.Refused r
+      → widened (made.Refused r) keep table ≡ widest-outcome left right keep table
   unfolding widest-outcome
   widest-refused r e =
-      by-refusal left right lm rm lh rh t O (λ r. refused r keep table) (λ e. widest-compared (compared left right e) keep table) r e
+      by-refusal left right lm rm lh rh t O (λ r. refused r keep table)
+      (λ e. widest-compared (compared left right e) keep table) r e
 
   module _ (e : t .answer ≡ two.Accepted) where
     pub check-done : (o : Checked) → Checks t lm rm lh rh keep table o → o ≡ check-outcome left right keep table
     unfolding check-outcome
     check-done o K =
         K left right (compared left right (nothing-found left right lm rm lh rh t O e)) (loaded-two left right lm rm lh rh t O e)
-        ∙ by-texts left right lm rm lh rh t O e (λ r. checked (check.Refused r) keep) (λ e. check-compared (compared left right e) keep table)
+        ∙ by-texts left right lm rm lh rh t O e (λ r. checked (check.Refused r) keep)
+        (λ e. check-compared (compared left right e) keep table)
 
     pub widest-done : (o : Widened) → Widens t lm rm lh rh keep table o → o ≡ widest-outcome left right keep table
     unfolding widest-outcome
     widest-done o K =
         K left right (compared left right (nothing-found left right lm rm lh rh t O e)) (loaded-two left right lm rm lh rh t O e)
-        ∙ by-texts left right lm rm lh rh t O e (λ r. refused r keep table) (λ e. widest-compared (compared left right e) keep table)
+        ∙ by-texts left right lm rm lh rh t O e (λ r. refused r keep table)
+        (λ e. widest-compared (compared left right e) keep table)

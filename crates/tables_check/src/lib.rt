@@ -2,9 +2,8 @@ ghost use mathlib.Core.Path.{_≡_};
 ghost use mathlib.Core.Bool.{true, false};
 ghost use Prim.Native.Nat.{_+_, _-_, _*_, _/_, _≤_, _<_};
 ghost use lib.ListN.{length, set};
-ghost use Rattle.clocks_bits.specs.Moves.{Bounded};
+ghost use Rattle.clocks_bits.specs.Moves.{Bounded, most-states, no-move};
 ghost use Rattle.clocks_bits.specs.Packed.{bytes};
-ghost use Rattle.tables_rows.specs.Limits.{most-states, no-move};
 ghost use Rattle.tables_rows.specs.Raster.{part};
 ghost use Rattle.tables_check.specs.Fault.{ok-of, first-bad, fault-at, table-from};
 

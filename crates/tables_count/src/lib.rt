@@ -3,9 +3,9 @@ ghost use Prim.Native.Nat.{suc, _+_, _-_, _*_, _/_, _%_, _≤_, _<_};
 ghost use lib.ListN.{length};
 ghost use Rattle.clocks_bits.specs.Bits.{bit-at};
 ghost use Rattle.clocks_bits.specs.Packed.{bytes};
-ghost use Rattle.tables_rows.specs.Limits.{most-states};
 ghost use Rattle.tables_rows.specs.Raster.{set-at};
 ghost use Rattle.tables_count.specs.Pairs.{high-ones, passing, pairs-set};
+ghost use Rattle.clocks_bits.specs.Moves.{most-states};
 
 // The ones among the first m + 1 bits of a byte, the others taken off.
 fn byte_ones(b: u8, m: usize) -> usize

@@ -4,8 +4,8 @@ ghost use Prim.Native.Nat.{ℕ, _+_, _-_, _*_, _/_, _≤_, _<_};
 ghost use lib.ListN.{length, set};
 ghost use Rattle.clocks_bits.specs.Bits.{written};
 ghost use Rattle.clocks_bits.specs.Packed.{bytes};
-ghost use Rattle.tables_rows.specs.Limits.{most-states};
 ghost use Rattle.tables_fill.specs.Fill.{Filling};
+ghost use Rattle.clocks_bits.specs.Moves.{most-states};
 
 fn zero(s: &mut [u8], n: usize)
     requires { ⌜ n ≤ length (now s) ⌝ }

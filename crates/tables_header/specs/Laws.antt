@@ -13,8 +13,8 @@ use lib.Seq.{drop-cons, getD-append-add, getD-drop}
 use Rattle.systems.specs.Bools.{and-T, and-both}
 use Rattle.clocks_bits.specs.Bits.{less, written, written-is}
 use Rattle.clocks_bits.specs.Packed.{bytes}
-use Rattle.tables_rows.specs.Limits.{most-states}
 use Rattle.tables_header.specs.Header.{ascii, digit, digits, decimal, header, header-bytes, raster-bytes, table-bytes, begins, fits}
+use Rattle.clocks_bits.specs.Moves.{most-states}
 
 -- one digit, and one digit more at the end
 digits-one : (k n : ℕ) → n < 10 → digits (suc k) n ≡ digit n ∷ []

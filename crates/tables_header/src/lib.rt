@@ -3,8 +3,8 @@ ghost use mathlib.Core.Path.{_≡_};
 ghost use Prim.Native.Nat.{_+_, _≤_, _<_};
 ghost use mathlib.Core.List.{_++_};
 ghost use lib.ListN.{length, getD, drop};
-ghost use Rattle.tables_rows.specs.Limits.{most-states};
 ghost use Rattle.tables_header.specs.Header.{ascii, decimal, header, header-bytes, table-bytes, begins, fits};
+ghost use Rattle.clocks_bits.specs.Moves.{most-states};
 
 // How many decimal digits n has.
 fn digit_count(n: usize) -> usize

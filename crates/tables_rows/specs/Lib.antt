@@ -1,5 +1,4 @@
 pub mod Given
-pub mod Limits
 pub mod Narrow
 pub mod NarrowLaws
 pub mod Raster

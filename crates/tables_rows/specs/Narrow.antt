@@ -7,9 +7,8 @@ use Prim.Native.Nat.{ℕ, _+_, _-_, _*_, _/_, _%_, _≤_, _<_}
 use lib.Dec.{eqb}
 use lib.ListN.{length, getD}
 use Rattle.systems.specs.Tests.{lands, at, ones, sieve}
-use Rattle.clocks_bits.specs.Moves.{decode, Bounded}
+use Rattle.clocks_bits.specs.Moves.{decode, Bounded, most-states}
 use Rattle.clocks_bits.specs.Packed.{bytes}
-use Rattle.tables_rows.specs.Limits.{most-states}
 use Rattle.tables_rows.specs.Raster.{row, Raster}
 
 -- the entries that stay: those of other rows, and those of row s whose step c leads to an entry of row u

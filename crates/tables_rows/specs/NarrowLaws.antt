@@ -14,9 +14,8 @@ use lib.ListN.{length, getD, take, drop, length-drop, take-append-drop}
 use lib.Seq.{ext-getD, getD-take, getD-drop, length-take-le, drop-drop}
 use Rattle.systems.specs.Tests.{lands, at, ones, sieve}
 use Rattle.clocks_bits.specs.Bits.{bit-at, written}
-use Rattle.clocks_bits.specs.Moves.{decode, decode-inside, Bounded}
+use Rattle.clocks_bits.specs.Moves.{decode, decode-inside, Bounded, most-states}
 use Rattle.clocks_bits.specs.Packed.{Packed, packed, packed-bit, packed-copy, packed-self, bytes, Bitmap}
-use Rattle.tables_rows.specs.Limits.{most-states}
 use Rattle.tables_rows.specs.Scan.{matched, lands-in, Scanned}
 use Rattle.tables_rows.specs.ScanLaws.{length-sieve, at-sieve0, sieve-ext}
 use Rattle.tables_rows.specs.Raster.{part, row, Raster}

@@ -1,9 +1,8 @@
 ghost use mathlib.Core.Path.{_≡_};
 ghost use Prim.Native.Nat.{_+_, _-_, _*_, _/_, _≤_, _<_};
 ghost use lib.ListN.{length, set};
-ghost use Rattle.clocks_bits.specs.Moves.{Bounded};
+ghost use Rattle.clocks_bits.specs.Moves.{Bounded, most-states, no-move};
 ghost use Rattle.clocks_bits.specs.Packed.{bytes, Bitmap};
-ghost use Rattle.tables_rows.specs.Limits.{most-states, no-move};
 ghost use Rattle.tables_rows.specs.Raster.{set-at};
 ghost use Rattle.tables_rows.specs.Narrow.{Narrows, Narrowed};
 ghost use Rattle.tables_rows.specs.Scan.{lands-in, matched, Visited, Scanned};

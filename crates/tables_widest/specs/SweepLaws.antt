@@ -21,10 +21,9 @@ use Rattle.systems.specs.Finite.{Finite-system, pruned, pair-ok, pairs, widest,
 use Rattle.systems.specs.Departure.{pruned-elim}
 use Rattle.systems.specs.Refinement.{Pair, Moves, rule-moves, moves-rule, pair-sound, pair-complete, pair-rule, pairs-elim}
 use Rattle.clocks_bits.specs.Bits.{less}
-use Rattle.clocks_bits.specs.Moves.{decode, decode-none, decode-some}
+use Rattle.clocks_bits.specs.Moves.{decode, decode-none, decode-some, most-states, no-move}
 use Rattle.clocks_bits.specs.Packed.{packed-unique}
 use Rattle.clocks_safe.specs.Settle.{length-table, length-stage, same-table}
-use Rattle.tables_rows.specs.Limits.{most-states, no-move}
 use Rattle.tables_rows.specs.ScanLaws.{at-sieve0}
 use Rattle.tables_rows.specs.Raster.{Raster, row}
 use Rattle.tables_rows.specs.RasterLaws.{row-at}

@@ -10,8 +10,12 @@ ghost use Prim.Native.Nat.{ℕ, _+_, _≤_, _<_};
 ghost use lib.ListN.{length};
 ghost use Rattle.io.specs.Counts.{Counts};
 
-// The letters of the search and of the widest table, `D` and `W`; the check has `C`.
+// The letters of the search, of the search with an over-long right text, and of the widest table: `D`, `L` and `W`; the
+// check has `C`.
 const SEARCH: usize = 68;
+
+const LONG: usize = 76;
+
 const WIDEST: usize = 87;
 
 // A case: the operation's letter and the lengths of its slices, and where its bytes begin.
@@ -117,7 +121,14 @@ fn case_at(s: &[u8], at: usize) -> Case
     }
 }
 
-fn search_case(left: &[u8], right: &[u8], keep: &mut [u8], back: &mut [u32], line: &mut [u32], run: &mut [u32]) {
+fn search_case(
+    left: &[u8],
+    right: &[u8],
+    keep: &mut [u8],
+    back: &mut [u32],
+    line: &mut [u32],
+    run: &mut [u32],
+) {
     let answer = search::search(left, right, keep, back, line, run);
     match answer {
         SearchAnswer::Refused(f) => put_refused(f),
@@ -168,7 +179,15 @@ fn widest_case(left: &[u8], right: &[u8], keep: &mut [u8], table: &mut [u8]) {
 
 // The slices of a case are the first entries of those lent here; a case that does not fit is left out, and the expected
 // output then differs.
-fn search_parts(left: &[u8], right: &[u8], c: Case, keep: &mut [u8], back: &mut [u32], line: &mut [u32], run: &mut [u32]) {
+fn search_parts(
+    left: &[u8],
+    right: &[u8],
+    c: Case,
+    keep: &mut [u8],
+    back: &mut [u32],
+    line: &mut [u32],
+    run: &mut [u32],
+) {
     let a: usize = 0;
     let k = c.keep;
     let b = c.back;
@@ -186,7 +205,21 @@ fn search_parts(left: &[u8], right: &[u8], c: Case, keep: &mut [u8], back: &mut 
     if run.len() < r {
         return;
     }
-    search_case(left, right, &mut keep[a..k], &mut back[a..b], &mut line[a..l], &mut run[a..r]);
+    search_case(
+        left,
+        right,
+        &mut keep[a..k],
+        &mut back[a..b],
+        &mut line[a..l],
+        &mut run[a..r],
+    );
+}
+
+fn search_entries(left: &[u8], right: &[u8], c: Case, keep: &mut [u8]) {
+    let mut back = [77u32; 2048];
+    let mut line = [77u32; 2048];
+    let mut run = [77u32; 64];
+    search_parts(left, right, c, keep, &mut back, &mut line, &mut run);
 }
 
 fn widest_parts(left: &[u8], right: &[u8], c: Case, keep: &mut [u8], table: &mut [u8]) {
@@ -215,11 +248,14 @@ fn check_parts(left: &[u8], right: &[u8], c: Case, keep: &mut [u8], table: &[u8]
 fn operation(left: &[u8], right: &[u8], table: &[u8], c: Case) {
     let mut keep = [165u8; 64];
     if c.letter == SEARCH {
-        let mut back = [77u32; 2048];
-        let mut line = [77u32; 2048];
-        let mut run = [77u32; 64];
         programs::put(b"D ");
-        search_parts(left, right, c, &mut keep, &mut back, &mut line, &mut run);
+        search_entries(left, right, c, &mut keep);
+        return;
+    }
+    if c.letter == LONG {
+        let long = io::large_buffer();
+        programs::put(b"L ");
+        search_entries(left, &long, c, &mut keep);
         return;
     }
     if c.letter == WIDEST {

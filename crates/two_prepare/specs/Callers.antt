@@ -26,15 +26,18 @@ module _ {left right : List ℕ} (c : Compared left right) {lm rm lh rh : List �
   pub loaded-right-start : t .«right_start» < t .«right_states»
   loaded-right-start = omega (arith, right-system c .start-state .0, D .right-size, D .right-start)
 
-  pub safe-left : (lm′ keep keep′ : List ℕ) (start : Bool) → Prepared t lh lm lm′ keep keep′ start → Safe-left (left-system c) t lm′ keep keep′ start
+  pub safe-left : (lm′ keep keep′ : List ℕ) (start : Bool) → Prepared t lh lm lm′ keep keep′ start
+      → Safe-left (left-system c) t lm′ keep keep′ start
   safe-left lm′ keep keep′ start P = P .left _ (left-system c) (D .left-encoded) (D .left-invariants) (D .left-start)
 
 -- the whole operations, once two texts are loaded: an outcome by codes 1 to 12
 module _ (left right lm rm lh rh : List ℕ) (t : Two) (O : Loads left right lm rm lh rh t) where
-  pub by-refusal : {X : Type 0} (refused : Refusal → X) (accepted : none ≡ two-judged left right → X) (r : Refusal) → t .answer ≡ Refused r
+  pub by-refusal : {X : Type 0} (refused : Refusal → X) (accepted : none ≡ two-judged left right → X) (r : Refusal)
+      → t .answer ≡ Refused r
       → refused r ≡ judged-by (two-judged left right) refused accepted
   unfolding refusal-in
-  by-refusal refused accepted r e = sym (judged-by-some (two-judged left right) refused accepted r (O .judged ∙ ap refusal-in e))
+  by-refusal refused accepted r e =
+      sym (judged-by-some (two-judged left right) refused accepted r (O .judged ∙ ap refusal-in e))
 
   module _ (e : t .answer ≡ Accepted) where
     pub nothing-found : none ≡ two-judged left right
@@ -50,7 +53,8 @@ module _ (left right lm rm lh rh : List ℕ) (t : Two) (O : Loads left right lm 
 
     pub ready-two : length (t .inputs) ≡ 17 → Ready-two t lm rm lh
     ready-two h = record {
-      left = loaded-ready (compared left right nothing-found) loaded-two (omega (arith, loaded-two .left-bounded .short));
+      left =
+          loaded-ready (compared left right nothing-found) loaded-two (omega (arith, loaded-two .left-bounded .short));
       right = loaded-two .right-bounded;
       right-start = loaded-right-start (compared left right nothing-found) loaded-two;
     }

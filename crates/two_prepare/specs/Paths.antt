@@ -1,20 +1,18 @@
 -- Laws for the path of `prepare`, and for its callers.
-use mathlib.Core.Path.{_≡_, refl, sym, ap, _∙_}
+use mathlib.Core.Path.{_≡_, sym, ap, _∙_}
 use mathlib.Core.Bool.{Bool}
 use mathlib.Core.List.{List}
-use Prim.Native.Nat.{ℕ, _/_, _≤_, _<_}
-use native.Mathlib.Omega.{arith}
+use Prim.Native.Nat.{ℕ, _≤_}
 use lib.ListN.{length}
 use Rattle.systems.specs.Tests.{at, table}
 use Rattle.systems.specs.Definitions.{Signature}
 use Rattle.systems.specs.Finite.{Finite-system, safe, safe-states, safe-test}
 use Rattle.clocks_bits.specs.Bits.{bit-at}
 use Rattle.clocks_bits.specs.Packed.{bytes, packed, Packed, packed-bit, packed-self}
-use Rattle.clocks_bits.specs.Moves.{Encoded}
-use Rattle.clocks_safe.specs.Settle.{Starts, Safe-answer, length-table, length-stage}
+use Rattle.clocks_safe.specs.Settle.{Safe-answer, length-table, length-stage}
 use Rattle.search_prune.specs.Prune.{Pruned}
 use Rattle.two_texts.specs.declared.Two.{Two}
-use Rattle.two_prepare.specs.Prepared.{Ready, Safe-left, Prepared}
+use Rattle.two_prepare.specs.Prepared.{Ready, Prepared}
 
 -- there are as many entries of safe states as states
 pub length-safe : {A : Signature} (L : Finite-system A) → length (safe-states L) ≡ L .size
@@ -22,12 +20,14 @@ unfolding safe-states
 length-safe L = length-stage (safe-test L) (table (L .size) (L .holds)) (L .size) ∙ length-table (L .size) (L .holds)
 
 -- keep with the safe states, as a bitmap over what it was
-pub safe-packed : {A : Signature} (L : Finite-system A) (n : ℕ) (keep keep′ : List ℕ) → L .size ≡ n → bytes n ≤ length keep
+pub safe-packed : {A : Signature} (L : Finite-system A) (n : ℕ) (keep keep′ : List ℕ) → L .size ≡ n
+    → bytes n ≤ length keep
     → keep′ ≡ packed n (safe-states L) keep → Packed n (safe-states L) keep keep′
 safe-packed L n keep keep′ e h q = record { long = length-safe L ∙ e; room = h; is = q }
 
 -- the safe states are written, the moves are pruned, the start's bit is read
-pub prepared : (t : Two) (holds moves moves′ keep keep′ : List ℕ) (count : ℕ) (start : Bool) → Ready t moves holds → bytes (t .«left_states») ≤ length keep
+pub prepared : (t : Two) (holds moves moves′ keep keep′ : List ℕ) (count : ℕ) (start : Bool) → Ready t moves holds
+    → bytes (t .«left_states») ≤ length keep
     → Safe-answer holds moves (t .inputs) (t .«left_states») (t .steps) keep keep′ count
     → Pruned (t .«left_states») (t .steps) keep′ moves moves′
     → start ≡ bit-at keep′ (t .«left_start») → Prepared t holds moves moves′ keep keep′ start

@@ -9,7 +9,7 @@ use Rattle.reader_record.specs.declared.Text.{Text}
 use Rattle.reader_record.specs.Formed.{Well-formed}
 use Rattle.clocks_bits.specs.Bits.{tab-from, written}
 use Rattle.clocks_bits.specs.Packed.{bytes, packed}
-use Rattle.clocks.specs.States.{state-count, state-limit, start-state, input, table-entry, table-size, invariants}
+use Rattle.clocks.specs.States.{state-count, start-state, input, table-entry, table-size, invariants}
 use Rattle.clocks_read.specs.declared.ReadAnswer.the-variants as read
 use Rattle.clocks_read.specs.declared.Reading.{Reading}
 use Rattle.clocks_read.specs.Reading.{read-outcome}
@@ -19,6 +19,7 @@ use Rattle.two_texts.specs.declared.TwoAnswer.the-variants.{Accepted, Re
 use Rattle.two_texts.specs.declared.Two.{Two}
 use Rattle.two_texts.specs.Two.{text-of, refused-in, refused-pairing, or-else, step-of}
 use Rattle.two_texts.specs.Loaded.{refusal-in}
+use Rattle.reader_record.specs.Limits.{state-limit}
 
 -- beside a refusal all numbers are 0 and no step is an input
 unfoldable pub refused : Refusal → Two

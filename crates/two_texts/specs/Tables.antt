@@ -13,7 +13,7 @@ use Rattle.reader_record.specs.declared.Text.{Text}
 use Rattle.reader_formed.specs.Cases.{when-equal}
 use Rattle.clocks_bits.specs.Bits.{tab-from, tab-at, written-at, written-length}
 use Rattle.clocks_bits.specs.Moves.{Bounded, Encodes}
-use Rattle.clocks.specs.States.{state-count, state-limit, next, input, table-limit, invariants}
+use Rattle.clocks.specs.States.{state-count, next, input, table-limit, invariants}
 use Rattle.clocks.specs.Accepted as accepted
 use Rattle.clocks.specs.Judgement.{judgement-few}
 use Rattle.clocks.specs.Contract.{signature, system}
@@ -27,6 +27,7 @@ use Rattle.two_texts.specs.Two.{text-of, step-of, Compared, right-system
 use Rattle.two_texts.specs.Laws.{Judged, named, channels-equal}
 use Rattle.two_texts.specs.Loaded.{Loaded}
 use Rattle.two_texts.specs.Answers.{accepted as accepted-two, size-by-left, by-left, Filled, Right-filled}
+use Rattle.reader_record.specs.Limits.{state-limit}
 
 -- an accepted text's table fits wherever the largest does, by its own steps or by as few others
 pub table-fits : (t : Text) → accepted.Accepted t → (steps room : ℕ) → steps ≤ most-steps → table-limit ≤ room

@@ -35,14 +35,22 @@ mul-check-refused c =
     let args = c .before .before .before .args in
     let pre = c .before .before .before .pre in
     let a = c .before .a3 in
-    omega (arith, broken-few (args .n) (args .w) (args .a) (pre .0) (pre .1 .0) (pre .1 .1) (a .given .0 .0) (a .given .0 .1 .0) (a .given .0 .1 .1 .0) (a .given .1))
+    omega (
+      arith,
+      broken-few (args .n) (args .w) (args .a) (pre .0) (pre .1 .0) (pre .1 .1) (a .given .0 .0)
+          (a .given .0 .1 .0) (a .given .0 .1 .1 .0) (a .given .1),
+    )
 
 add-check-refused : tie.Need-add-check-refused
 add-check-refused c =
     let args = c .before .before .before .args in
     let pre = c .before .before .before .pre in
     let a = c .before .a3 in
-    omega (arith, broken-few (args .n) (args .w) (args .a) (pre .0) (pre .1 .0) (pre .1 .1) (a .given .0 .0) (a .given .0 .1 .0) (a .given .0 .1 .1 .0) (a .given .1))
+    omega (
+      arith,
+      broken-few (args .n) (args .w) (args .a) (pre .0) (pre .1 .0) (pre .1 .1) (a .given .0 .0)
+          (a .given .0 .1 .0) (a .given .0 .1 .1 .0) (a .given .1),
+    )
 
 check-refused-requires-4 : tie.Need-check-refused-requires-4
 check-refused-requires-4 c κs = search needs

@@ -53,14 +53,20 @@ slice-aggregate-checked-4 c = search needs
 checked-requires : tie.Need-checked-requires
 checked-requires c κs =
     let args = c .before .before .before .before .before .before .before .before .before .before .before .before .before .before .before .before .before .before .before .before .before .before .before .before .args in
-    let loaded = c .before .before .before .before .before .before .before .before .before .before .before .load-two in
-    (ready-two (args .left .now) (args .right .now) _ _ _ _ (loaded .result) (loaded .ensures) (c .before .before .before .before .before .enum-told .given .1) (search needs), loaded-two (args .left .now) (args .right .now) _ _ _ _ (loaded .result) (loaded .ensures) (c .before .before .before .before .before .enum-told .given .1) .right-bits)
+    let loaded = c .before .before .before .before .before .before .before .before .before .before .before .load-two in (
+      ready-two (args .left .now) (args .right .now) _ _ _ _ (loaded .result) (loaded .ensures)
+          (c .before .before .before .before .before .enum-told .given .1) (search needs),
+      loaded-two (args .left .now)
+          (args .right .now) _ _ _ _ (loaded .result) (loaded .ensures)
+          (c .before .before .before .before .before .enum-told .given .1) .right-bits,
+    )
 
 returns : tie.Need-returns
 returns c =
     let args = c .before .before .before .before .before .before .before .before .before .before .before .before .before .before .before .before .before .before .before .before .args in
     let loaded = c .before .before .before .before .before .before .before .load-two in
-    check-refused (args .left .now) (args .right .now) _ _ _ _ (loaded .result) (loaded .ensures) (args .keep .now) (args .table .now) _ (c .before .answer .given .1)
+    check-refused (args .left .now) (args .right .now) _ _ _ _ (loaded .result) (loaded .ensures) (args .keep .now)
+    (args .table .now) _ (c .before .answer .given .1)
 
 same-length : tie.Need-same-length
 same-length c = search needs
@@ -69,7 +75,8 @@ returns-2 : tie.Need-returns-2
 returns-2 c =
     let args = c .before .before .before .before .before .before .before .before .before .before .before .before .before .before .before .before .before .before .before .before .before .before .before .before .before .before .before .before .args in
     let loaded = c .before .before .before .before .before .before .before .before .before .before .before .before .before .before .before .load-two in
-    check-done (args .left .now) (args .right .now) _ _ _ _ (loaded .result) (loaded .ensures) (args .keep .now) (args .table .now) (c .before .before .before .before .before .before .before .before .before .enum-told .given .1) _ (c .before .before .before .checked .ensures)
+    check-done (args .left .now) (args .right .now) _ _ _ _ (loaded .result) (loaded .ensures) (args .keep .now)
+    (args .table .now) (c .before .before .before .before .before .before .before .before .before .enum-told .given .1) _ (c .before .before .before .checked .ensures)
 
 pub check-spec : {M : Type 1} → statement M
 check-spec =

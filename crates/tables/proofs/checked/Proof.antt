@@ -14,7 +14,8 @@ check-refused-requires c κs = search needs
 returns : tie.Need-returns
 returns c =
     let args = c .before .before .before .before .before .before .before .before .args in
-    check-keep-short (args .t) (args .lm .now) (args .rm .now) (args .lh .now) (args .rh .now) (args .keep .now) (args .table .now) _ (c .check-refused .ensures) (c .before .if1 .taken)
+    check-keep-short (args .t) (args .lm .now) (args .rm .now) (args .lh .now) (args .rh .now) (args .keep .now)
+    (args .table .now) _ (c .check-refused .ensures) (c .before .if1 .taken)
 
 is-table-requires : tie.Need-is-table-requires
 is-table-requires c κs = search needs
@@ -26,7 +27,8 @@ returns-2 : tie.Need-returns-2
 returns-2 c =
     let args = c .before .before .before .before .before .before .before .before .before .before .args in
     let fitting = c .before .before .is-table in
-    check-other (args .t) (args .lm .now) (args .rm .now) (args .lh .now) (args .rh .now) (args .keep .now) (args .table .now) (c .before .before .before .if1 .left)
+    check-other (args .t) (args .lm .now) (args .rm .now) (args .lh .now) (args .rh .now) (args .keep .now)
+    (args .table .now) (c .before .before .before .if1 .left)
     _ (fitting .result) (c .check-refused2 .ensures) (fitting .ensures) (c .before .if2 .taken)
 
 prepare-requires : tie.Need-prepare-requires
@@ -46,7 +48,8 @@ returns-3 c =
     let args = c .before .before .before .before .before .before .before .before .before .before .before .before .before .before .before .before .before .before .args in
     let fitting = c .before .before .before .before .before .before .before .before .before .before .is-table in
     let prepared = c .before .before .before .before .before .before .prepare in
-    check-not-safe (args .t) (args .lm .now) (args .rm .now) (args .lh .now) (args .rh .now) (args .keep .now) (args .table .now) (c .before .before .before .before .before .before .before .before .before .before .before .if1 .left)
+    check-not-safe (args .t) (args .lm .now) (args .rm .now) (args .lh .now) (args .rh .now) (args .keep .now)
+    (args .table .now) (c .before .before .before .before .before .before .before .before .before .before .before .if1 .left)
     (fitting .result) (fitting .ensures) (c .before .before .before .before .before .before .before .before .before .if2 .left) _ _ (prepared .result) (prepared .ensures) _ (c .check-refused3 .ensures) (c .before .if3 .taken)
 
 header-length-requires : tie.Need-header-length-requires
@@ -57,14 +60,16 @@ sub-check-raster c =
     let args = c .before .before .before .before .before .before .before .before .before .before .before .before .before .before .before .before .before .before .args in
     let fitting = c .before .before .before .before .before .before .before .before .before .before .is-table in
     let header = c .header-length in
-    header-in (args .t .«right_states») (args .t .«left_states») (header .result) (args .table .now) (header .ensures) (fitting .result) (fitting .ensures) (c .before .before .before .before .before .before .before .before .before .if2 .left)
+    header-in (args .t .«right_states») (args .t .«left_states») (header .result) (args .table .now) (header .ensures)
+    (fitting .result) (fitting .ensures) (c .before .before .before .before .before .before .before .before .before .if2 .left)
 
 part-check-raster-start : tie.Need-part-check-raster-start
 part-check-raster-start c =
     let args = c .before .before .before .before .before .before .before .before .before .before .before .before .before .before .before .before .before .before .args in
     let fitting = c .before .before .before .before .before .before .before .before .before .before .is-table in
     let header = c .header-length in
-    header-in (args .t .«right_states») (args .t .«left_states») (header .result) (args .table .now) (header .ensures) (fitting .result) (fitting .ensures) (c .before .before .before .before .before .before .before .before .before .if2 .left)
+    header-in (args .t .«right_states») (args .t .«left_states») (header .result) (args .table .now) (header .ensures)
+    (fitting .result) (fitting .ensures) (c .before .before .before .before .before .before .before .before .before .if2 .left)
 
 part-check-raster-end : tie.Need-part-check-raster-end
 part-check-raster-end c = search needs
@@ -75,8 +80,7 @@ check-raster-requires c κs =
     let pre = c .before .before .before .before .before .before .before .before .before .before .before .before .before .before .before .before .before .before .before .before .before .pre in
     let fitting = c .before .before .before .before .before .before .before .before .before .before .before .before .before .is-table in
     let header = c .before .before .before .header-length in
-    let prepared = c .before .before .before .before .before .before .before .before .before .prepare in
-    (
+    let prepared = c .before .before .before .before .before .before .before .before .before .prepare in (
       record {
         left = prepared .ensures .bounded;
         right = pre .0 .right;
@@ -85,7 +89,9 @@ check-raster-requires c κs =
         safe-room = search needs;
         true-bits = pre .1;
       },
-      raster-long (args .t .«right_states») (args .t .«left_states») (header .result) (args .table .now) (header .ensures) (fitting .result) (fitting .ensures) (c .before .before .before .before .before .before .before .before .before .before .before .before .if2 .left),
+      raster-long (args .t .«right_states») (args .t .«left_states») (header .result) (args .table .now)
+          (header .ensures) (fitting .result) (fitting .ensures)
+          (c .before .before .before .before .before .before .before .before .before .before .before .before .if2 .left),
     )
 
 answer-of-requires : tie.Need-answer-of-requires
@@ -106,7 +112,8 @@ returns-4 c =
     let header = c .before .before .before .before .before .header-length in
     let prepared = c .before .before .before .before .before .before .before .before .before .before .before .prepare in
     let scan = c .before .check-raster in
-    check-scanned (args .t) (args .lm .now) (args .rm .now) (args .lh .now) (args .rh .now) (args .keep .now) (args .table .now) (c .before .before .before .before .before .before .before .before .before .before .before .before .before .before .before .before .if1 .left)
+    check-scanned (args .t) (args .lm .now) (args .rm .now) (args .lh .now) (args .rh .now) (args .keep .now)
+    (args .table .now) (c .before .before .before .before .before .before .before .before .before .before .before .before .before .before .before .before .if1 .left)
     (fitting .result) (fitting .ensures) (c .before .before .before .before .before .before .before .before .before .before .before .before .before .before .if2 .left) _ _ (prepared .result) (prepared .ensures) _ (scan .result) _ (c .before .before .before .before .before .before .if3 .left) (raster-rest (args .t .«right_states») (args .t .«left_states») (header .result) (args .table .now) (header .ensures)) (scan .ensures) (c .answer-of .ensures)
 
 pub checked-spec : {M : Type 1} → statement M

@@ -14,7 +14,8 @@ widest-refused-requires c κs = search needs
 returns : tie.Need-returns
 returns c =
     let args = c .before .before .before .before .before .before .before .before .args in
-    widest-keep-short (args .t) (args .lm .now) (args .rm .now) (args .lh .now) (args .rh .now) (args .keep .now) (args .table .now) _ (c .widest-refused .ensures) (c .before .if1 .taken)
+    widest-keep-short (args .t) (args .lm .now) (args .rm .now) (args .lh .now) (args .rh .now) (args .keep .now)
+    (args .table .now) _ (c .widest-refused .ensures) (c .before .if1 .taken)
 
 table-length-requires : tie.Need-table-length-requires
 table-length-requires c κs = search needs
@@ -26,7 +27,9 @@ returns-2 : tie.Need-returns-2
 returns-2 c =
     let args = c .before .before .before .before .before .before .before .before .before .before .args in
     let sized = c .before .before .table-length in
-    widest-table-short (args .t) (args .lm .now) (args .rm .now) (args .lh .now) (args .rh .now) (args .keep .now) (args .table .now) (c .before .before .before .if1 .left) (sized .result) (sized .ensures) _ (c .widest-refused2 .ensures) (c .before .if2 .taken)
+    widest-table-short (args .t) (args .lm .now) (args .rm .now) (args .lh .now) (args .rh .now) (args .keep .now)
+    (args .table .now) (c .before .before .before .if1 .left) (sized .result) (sized .ensures) _
+    (c .widest-refused2 .ensures) (c .before .if2 .taken)
 
 prepare-requires : tie.Need-prepare-requires
 prepare-requires c κs = search needs
@@ -45,7 +48,8 @@ returns-3 c =
     let args = c .before .before .before .before .before .before .before .before .before .before .before .before .before .before .before .before .before .before .args in
     let sized = c .before .before .before .before .before .before .before .before .before .before .table-length in
     let prepared = c .before .before .before .before .before .before .prepare in
-    widest-not-safe (args .t) (args .lm .now) (args .rm .now) (args .lh .now) (args .rh .now) (args .keep .now) (args .table .now) (c .before .before .before .before .before .before .before .before .before .before .before .if1 .left) (sized .result) (sized .ensures) (c .before .before .before .before .before .before .before .before .before .if2 .left)
+    widest-not-safe (args .t) (args .lm .now) (args .rm .now) (args .lh .now) (args .rh .now) (args .keep .now)
+    (args .table .now) (c .before .before .before .before .before .before .before .before .before .before .before .if1 .left) (sized .result) (sized .ensures) (c .before .before .before .before .before .before .before .before .before .if2 .left)
     _ _ (prepared .result) (prepared .ensures) _ (c .widest-refused3 .ensures) (c .before .if3 .taken)
 
 no-states-requires : tie.Need-no-states-requires
@@ -57,8 +61,7 @@ slice-aggregate-make-widest c = search needs
 make-widest-requires : tie.Need-make-widest-requires
 make-widest-requires c κs =
     let pre = c .before .before .before .before .before .before .before .before .before .before .before .before .before .before .before .before .before .before .before .before .before .before .pre in
-    let prepared = c .before .before .before .before .before .before .before .before .before .before .prepare in
-    (
+    let prepared = c .before .before .before .before .before .before .before .before .before .before .prepare in (
       record {
         left = prepared .ensures .bounded;
         right = pre .0 .right;
@@ -85,7 +88,8 @@ returns-4 c =
     let sized = c .before .before .before .before .before .before .before .before .before .before .before .before .before .before .before .before .before .before .table-length in
     let prepared = c .before .before .before .before .before .before .before .before .before .before .before .before .before .before .prepare in
     let widest = c .before .before .before .make-widest in
-    widest-made (args .t) (args .lm .now) (args .rm .now) (args .lh .now) (args .rh .now) (args .keep .now) (args .table .now) (c .before .before .before .before .before .before .before .before .before .before .before .before .before .before .before .before .before .before .before .if1 .left) (sized .result) (sized .ensures) (c .before .before .before .before .before .before .before .before .before .before .before .before .before .before .before .before .before .if2 .left)
+    widest-made (args .t) (args .lm .now) (args .rm .now) (args .lh .now) (args .rh .now) (args .keep .now)
+    (args .table .now) (c .before .before .before .before .before .before .before .before .before .before .before .before .before .before .before .before .before .before .before .if1 .left) (sized .result) (sized .ensures) (c .before .before .before .before .before .before .before .before .before .before .before .before .before .before .before .before .before .if2 .left)
     _ _ (prepared .result) (prepared .ensures) _ (widest .result .count) (widest .result .start) (c .before .before .before .before .before .before .before .before .before .if3 .left) (widest .ensures)
 
 pub made-spec : {M : Type 1} → statement M

@@ -53,14 +53,20 @@ slice-aggregate-made-4 c = search needs
 made-requires : tie.Need-made-requires
 made-requires c κs =
     let args = c .before .before .before .before .before .before .before .before .before .before .before .before .before .before .before .before .before .before .before .before .before .before .before .before .before .args in
-    let loaded = c .before .before .before .before .before .before .before .before .before .before .before .before .load-two in
-    (ready-two (args .left .now) (args .right .now) _ _ _ _ (loaded .result) (loaded .ensures) (c .before .before .before .before .before .before .enum-told .given .1) (search needs), loaded-two (args .left .now) (args .right .now) _ _ _ _ (loaded .result) (loaded .ensures) (c .before .before .before .before .before .before .enum-told .given .1) .right-bits)
+    let loaded = c .before .before .before .before .before .before .before .before .before .before .before .before .load-two in (
+      ready-two (args .left .now) (args .right .now) _ _ _ _ (loaded .result) (loaded .ensures)
+          (c .before .before .before .before .before .before .enum-told .given .1) (search needs),
+      loaded-two
+          (args .left .now) (args .right .now) _ _ _ _ (loaded .result) (loaded .ensures)
+          (c .before .before .before .before .before .before .enum-told .given .1) .right-bits,
+    )
 
 returns : tie.Need-returns
 returns c =
     let args = c .before .before .before .before .before .before .before .before .before .before .before .before .before .before .before .before .before .before .before .before .args in
     let loaded = c .before .before .before .before .before .before .before .load-two in
-    widest-refused (args .left .now) (args .right .now) _ _ _ _ (loaded .result) (loaded .ensures) (args .keep .now) (args .table .now) _ (c .before .answer .given .1)
+    widest-refused (args .left .now) (args .right .now) _ _ _ _ (loaded .result) (loaded .ensures) (args .keep .now)
+    (args .table .now) _ (c .before .answer .given .1)
 
 same-length : tie.Need-same-length
 same-length c = search needs
@@ -72,7 +78,8 @@ returns-2 : tie.Need-returns-2
 returns-2 c =
     let args = c .before .before .before .before .before .before .before .before .before .before .before .before .before .before .before .before .before .before .before .before .before .before .before .before .before .before .before .before .before .before .before .args in
     let loaded = c .before .before .before .before .before .before .before .before .before .before .before .before .before .before .before .before .before .before .load-two in
-    widest-done (args .left .now) (args .right .now) _ _ _ _ (loaded .result) (loaded .ensures) (args .keep .now) (args .table .now) (c .before .before .before .before .before .before .before .before .before .before .before .before .enum-told .given .1) _ (c .before .before .before .before .before .made .ensures)
+    widest-done (args .left .now) (args .right .now) _ _ _ _ (loaded .result) (loaded .ensures) (args .keep .now)
+    (args .table .now) (c .before .before .before .before .before .before .before .before .before .before .before .before .enum-told .given .1) _ (c .before .before .before .before .before .made .ensures)
 
 pub widest-spec : {M : Type 1} → statement M
 widest-spec =

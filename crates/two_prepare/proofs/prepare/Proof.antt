@@ -26,8 +26,11 @@ returns : tie.Need-returns
 returns c =
     let first = c .before .before .before .before .before .before .before .before .before .before .before .before .before .before .before .before .before in
     let args = first .args in
-    prepared (args .t) (args .lh .now) (args .lm .now) _ (args .keep .now) _ (c .before .before .before .before .before .before .before .before .before .safe .result) _ (first .pre .0) (first .pre .1)
-    (c .before .before .before .before .before .before .before .before .before .safe .ensures) (c .before .before .before .before .prune .ensures) (c .get .ensures)
+    prepared (args .t) (args .lh .now) (args .lm .now) _ (args .keep .now) _
+    (c .before .before .before .before .before .before .before .before .before .safe .result) _ (first .pre .0)
+    (first .pre .1)
+    (c .before .before .before .before .before .before .before .before .before .safe .ensures)
+    (c .before .before .before .before .prune .ensures) (c .get .ensures)
 
 pub prepare-spec : {M : Type 1} → statement M
 prepare-spec =
