@@ -105,6 +105,8 @@ class Cases:
             parts += ["table", made.hex() or "-"]
         if letter in "DL":
             parts += ["run", ",".join(map(str, steps)) or "-"]
+            if word == "refused" and answer[0] != 21:  # back and line are as they came
+                parts += ["kept", "kept"]
         self.lines.append(" ".join(parts))
         return answer, made
 
@@ -118,7 +120,7 @@ class Cases:
         print("codes", *codes)
 
 
-def searches(cases, count=75, most=30000, seed=1):
+def searches(cases, count=90, most=32000, seed=1):
     """The search: document 01's pairs, each refusal, lengths at and just below what is needed, random pairs."""
     rng, P = random.Random(seed), POSTS
     for left, right in (("Post", "Post"), ("Rearm", "Post"), ("Early", "Post"), ("Idle", "Post"), ("Post", "Idle"), ("Post", "Hush"), ("Hush", "Post")):
@@ -132,6 +134,13 @@ def searches(cases, count=75, most=30000, seed=1):
     cases.add("D", P["Post"], P["Post"][:-3], keep=2, back=100, line=100)
     cases.add("D", P["Post"], P["Post"].replace(b"late", b"tardy"), keep=2, back=100, line=100)
     cases.add("D", P["Hush"].replace(b", late", b""), P["Post"], keep=2, back=100, line=100)
+    # codes 3 to 9 and 11, in the left text and in the right one
+    bad = [P["Post"].replace(b"Wait ->", b"W" * 32 + b" ->", 1), P["Post"].replace(b"clock x", b"clock late"), P["Post"].replace(b"init Wait", b"init late"),
+           P["Post"].replace(b"x >= 3", b"x >= 1001"), P["Post"].replace(b"x <= 3", b"x <= 3 && x <= 3 && x <= 3 && x <= 3 && x <= 3"),
+           P["Post"].replace(b"Done -> Done { sync pass?", b"Done -> Done { sync late?"), P["Post"].replace(b"clock x", b"clock x, y").replace(b"x >= 3", b"x >= 1000 && y >= 3"),
+           P["Post"].replace(b"Done -> Done { sync pass?; },", b"Done -> Done { sync pass?; }, Done -> Wait { sync pass?; assign x = 0; },")]
+    found = [cases.add("D", *pair, keep=2, back=3, line=3, run=1)[0][0] for text in bad for pair in ((text, b""), (P["Post"], text))]
+    assert found == [c for c in (3, 4, 5, 6, 7, 8, 9, 11) for _ in "lr"], found
     while len(cases.lines) < count and len(cases.data) < most:
         left, right = random_pair(rng)
         if small(left, right):
@@ -166,6 +175,9 @@ def tables(cases, count=90, most=64000, seed=2):
     cases.add("C", P["Hush"], post, diagonal, keep=2)
     cases.add("C", P["Hush"], post, diagonal[:-1], keep=2)
     cases.add("C", b"", b"", diagonal)
+    other = post.replace(b"late", b"tardy")  # 12
+    cases.add("C", post, other, diagonal, keep=2)
+    cases.add("W", post, other, keep=2, room=29)
     while len(cases.lines) - first < count and len(cases.data) < most:
         left, right = random_pair(rng)
         if not small(left, right):

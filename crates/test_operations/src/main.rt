@@ -121,6 +121,45 @@ fn case_at(s: &[u8], at: usize) -> Case
     }
 }
 
+// Whether the entries of a slice, at most 2,048, are all as they were lent.
+fn is_kept(s: &[u32]) -> bool {
+    let mut i: usize = 0;
+    while i < 2048 {
+        if s.len() <= i {
+            return true;
+        }
+        if s[i] != 77 {
+            return false;
+        }
+        i += 1;
+    }
+    true
+}
+
+// What became of back or line after a refusal that must leave it alone.
+fn put_scratch(s: &[u32]) {
+    if is_kept(s) {
+        programs::put(b" kept");
+        return;
+    }
+    programs::put(b" changed");
+}
+
+// Prints the answer, and says whether back and line must be as they came: after every refusal but 21.
+fn put_searched(answer: SearchAnswer) -> bool {
+    match answer {
+        SearchAnswer::Refused(f) => {
+            put_refused(f);
+            f.code != 21
+        }
+        SearchAnswer::Found(n) => {
+            programs::put(b"done");
+            programs::put_number(n);
+            false
+        }
+    }
+}
+
 fn search_case(
     left: &[u8],
     right: &[u8],
@@ -130,16 +169,14 @@ fn search_case(
     run: &mut [u32],
 ) {
     let answer = search::search(left, right, keep, back, line, run);
-    match answer {
-        SearchAnswer::Refused(f) => put_refused(f),
-        SearchAnswer::Found(n) => {
-            programs::put(b"done");
-            programs::put_number(n);
-        }
-    }
+    let kept = put_searched(answer);
     put_keep(keep);
     programs::put(b" run ");
     put_entries(run);
+    if kept {
+        put_scratch(back);
+        put_scratch(line);
+    }
 }
 
 fn check_case(left: &[u8], right: &[u8], keep: &mut [u8], table: &[u8]) {
