@@ -1,8 +1,10 @@
-# make test is the gate; make run checks a draft against a contract.
+# make run checks a draft against a contract, make test is the gate.
+# make library builds the archive for C and Rust; c-example, differential and bench use it; picture needs Netpbm.
 DRAFT ?= examples/Rearm.xta
 CONTRACT ?= examples/Post.xta
+CARGO := cargo
 
-.PHONY: run test
+.PHONY: run test picture library c-example differential bench
 
 run:
 	@mkdir -p target/run
@@ -11,3 +13,27 @@ run:
 
 test:
 	@.ci/run
+
+# The widest table of DRAFT against CONTRACT as target/run/widest.png, a black square of 24 dots for each pair.
+picture:
+	@mkdir -p target/run
+	@rt check widest > target/run/check.log 2>&1 || { tail -n 20 target/run/check.log >&2; exit 1; }
+	@cp "$(DRAFT)" target/run/left.xta && cp "$(CONTRACT)" target/run/right.xta
+	@cd target/run && ../bin/widest > widest.pbm
+	@pamenlarge 24 target/run/widest.pbm | pnmpad -black -left=2 -right=2 -top=2 -bottom=2 | pnmtopng -quiet \
+		> target/run/widest.png
+
+library:
+	@rt staticlib megzhoi_c >&2
+
+c-example: library
+	@mkdir -p target/run
+	@$(CC) -std=c11 -O2 -Wall -Wextra -Werror -o target/run/c-example library/example.c target/staticlib/libmegzhoi_c.a
+	@target/run/c-example "$(DRAFT)" "$(CONTRACT)"
+
+differential: library
+	@$(CARGO) test --offline --release --quiet --package plain --package megzhoi
+	@$(CARGO) run --offline --release --quiet --package differential
+
+bench: library
+	@$(CARGO) run --offline --release --quiet --package bench

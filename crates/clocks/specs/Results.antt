@@ -80,8 +80,8 @@ module _ (l r : Text) (a : Accepted l) (b : Accepted r) (f : ℕ → ℕ)
 
   -- whose steps some implementation of the left makes and the right does not allow
   pub text-search-made : T (safe left (left .start)) → (search-run left right ≡ [] → ⊥)
-      → (I : Implementation (signature l)) × Satisfies I Left × Makes I (search-run left right) ×
-      (Allows Right (search-run left right) → ⊥)
+      → (I : Implementation (signature l)) × Satisfies I Left × Makes I (search-run left right)
+      × (Allows Right (search-run left right) → ⊥)
   text-search-made = search-made left-capping right-capping
 
   -- every such run has at least its length, and there is none where it is empty

@@ -32,23 +32,32 @@ module _ {n : ℕ} {X : List Bool} {d s : List ℕ} (P : Packed n X d s) where
 
   pub packed-bit : (i : ℕ) → i < n → bit-at s i ≡ at X i
   unfolding packed
-  packed-bit i h = bit-of (at X) s i (ap (λ (l : List ℕ). getD l (i / 8) 0) (P .is) ∙ written-at (byte-of (at X)) (bytes n) d (i / 8) (omega arith))
+  packed-bit i h = bit-of (at X) s i (ap (λ (l : List ℕ). getD l (i / 8) 0) (P .is)
+      ∙ written-at (byte-of (at X)) (bytes n) d (i / 8) (omega arith))
 
   pub packed-in : (i : ℕ) → i < n → i / 8 < length s
   packed-in i h = omega (arith, packed-length, P .room)
 
   -- one entry cleared
-  pub packed-clear : (i : ℕ) → i < n → at X i ≡ true → Packed n (set X i false) d (set s (i / 8) (getD s (i / 8) 0 - 2 ^ (7 - i % 8)))
+  pub packed-clear : (i : ℕ) → i < n → at X i ≡ true
+      → Packed n (set X i false) d (set s (i / 8) (getD s (i / 8) 0 - 2 ^ (7 - i % 8)))
   unfolding packed
   packed-clear i h e = record {
     long = length-set X i false ∙ P .long;
     room = P .room;
-    is = rw (P .is) (clear-is (at X) (at (set X i false)) i (record { was = e; now-not = getD-set-same X i false false (omega (arith, P .long)); other = λ j f. getD-set-other X i j false false f }) (bytes n) d (P .room) (omega arith));
+    is = rw (P .is) (clear-is (at X) (at (set X i false)) i
+        (record {
+          was = e;
+          now-not = getD-set-same X i false false (omega (arith, P .long));
+          other =
+              λ j f. getD-set-other X i j false false f;
+        }) (bytes n) d (P .room) (omega arith));
   }
 
 -- the table is the only one
 pub packed-unique : {n : ℕ} {X Y : List Bool} {d e s : List ℕ} → Packed n X d s → Packed n Y e s → X ≡ Y
-packed-unique {n} {X} {Y} P Q = ext-getD false X Y (P .long ∙ sym (Q .long)) (λ i h. sym (packed-bit P i (omega (arith, P .long))) ∙ packed-bit Q i (omega (arith, P .long)))
+packed-unique {n} {X} {Y} P Q = ext-getD false X Y (P .long ∙ sym (Q .long))
+    (λ i h. sym (packed-bit P i (omega (arith, P .long))) ∙ packed-bit Q i (omega (arith, P .long)))
 
 -- clearing an entry that is set
 pub ones-clear : (X : List Bool) (i : ℕ) → at X i ≡ true → ones X ≡ suc (ones (set X i false))
@@ -88,9 +97,11 @@ pub record Bitmap (n : ℕ) (k : List ℕ) : Type 0 where
   pub is : Packed n entries k k
 
 -- a copy of a bitmap over d
-pub packed-copy : (n : ℕ) (X : List Bool) (k d : List ℕ) → bytes n ≤ length d → k ≡ packed n X k → written (λ i. getD k i 0) (bytes n) d ≡ packed n X d
+pub packed-copy : (n : ℕ) (X : List Bool) (k d : List ℕ) → bytes n ≤ length d → k ≡ packed n X k
+    → written (λ i. getD k i 0) (bytes n) d ≡ packed n X d
 unfolding packed
-packed-copy n X k d h e = written-same (λ i. getD k i 0) (byte-of (at X)) (bytes n) d h (λ i l. ap (λ (y : List ℕ). getD y i 0) e ∙ written-at (byte-of (at X)) (bytes n) k i l)
+packed-copy n X k d h e = written-same (λ i. getD k i 0) (byte-of (at X)) (bytes n) d h
+    (λ i l. ap (λ (y : List ℕ). getD y i 0) e ∙ written-at (byte-of (at X)) (bytes n) k i l)
 
 -- over itself
 pub packed-self : {n : ℕ} {X : List Bool} {d s : List ℕ} → Packed n X d s → Packed n X s s
@@ -98,12 +109,17 @@ unfolding packed
 packed-self {n} {X} {d} {s} P = record {
   long = P .long;
   room = omega (arith, packed-length P, P .room);
-  is = written-is (byte-of (at X)) (bytes n) s s (omega (arith, packed-length P, P .room)) refl (λ i l. ap (λ (y : List ℕ). getD y i 0) (P .is) ∙ written-at (byte-of (at X)) (bytes n) d i l) (λ i l. refl);
+  is = written-is (byte-of (at X)) (bytes n) s s (omega (arith, packed-length P, P .room)) refl
+      (λ i l. ap (λ (y : List ℕ). getD y i 0) (P .is) ∙ written-at (byte-of (at X)) (bytes n) d i l) (λ i l. refl);
 }
 
-pub packed-same : (n : ℕ) (X : List Bool) (k : List ℕ) (Y : List Bool) (d : List ℕ) → length Y ≡ n → bytes n ≤ length d → k ≡ packed n X d → packed n Y k ≡ packed n Y d
+pub packed-same : (n : ℕ) (X : List Bool) (k : List ℕ) (Y : List Bool) (d : List ℕ) → length Y ≡ n → bytes n ≤ length d
+    → k ≡ packed n X d → packed n Y k ≡ packed n Y d
 unfolding packed
-packed-same n X k Y d h l e = written-is (byte-of (at Y)) (bytes n) (written (byte-of (at Y)) (bytes n) k) d l (written-length (byte-of (at Y)) (bytes n) k (omega (arith, sized)) ∙ sized) (written-at (byte-of (at Y)) (bytes n) k) (λ i q. written-past (byte-of (at Y)) (bytes n) k i q ∙ ap (λ (y : List ℕ). getD y i 0) e ∙ written-past (byte-of (at X)) (bytes n) d i q)
+packed-same n X k Y d h l e = written-is (byte-of (at Y)) (bytes n) (written (byte-of (at Y)) (bytes n) k) d l
+    (written-length (byte-of (at Y)) (bytes n) k (omega (arith, sized)) ∙ sized)
+    (written-at (byte-of (at Y)) (bytes n) k) (λ i q. written-past (byte-of (at Y)) (bytes n) k i q
+    ∙ ap (λ (y : List ℕ). getD y i 0) e ∙ written-past (byte-of (at X)) (bytes n) d i q)
   where
     sized : length k ≡ length d
     sized = ap length e ∙ written-length (byte-of (at X)) (bytes n) d l

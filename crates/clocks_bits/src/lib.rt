@@ -4,11 +4,18 @@ ghost use mathlib.Core.Bool.{true, false};
 ghost use Prim.Native.Nat.{ℕ, _+_, _-_, _*_, _/_, _%_, _^_, _≤_, _<_};
 ghost use lib.ListN.{length, getD, set};
 ghost use Rattle.clocks_bits.specs.Bits.{bit-at, num, written};
+ghost use Rattle.clocks_bits.specs.Moves.{most-pairs};
 ghost use Rattle.clocks_bits.specs.Packed.{bytes, Count};
 ghost use Rattle.clocks_bits.specs.Put.{put-bit};
 
 // No move, in a move table.
 pub const NO_MOVE: u16 = 65535;
+
+// The same, as a state number is held in a local.
+pub const NO_TARGET: usize = NO_MOVE as usize;
+
+// Document 01's limit of states.
+pub const MOST_STATES: usize = 4096;
 
 // Bit i of a bitmap, the high bit of byte 0 first.
 pub fn get(s: &[u8], i: usize) -> bool
@@ -42,7 +49,7 @@ pub fn bit(s: &[u8], i: usize) -> usize
 
 // How many of the first n bits are set.
 pub fn count(s: &[u8], n: usize) -> usize
-    requires { ⌜ (n ≤ 16777216) × (bytes n ≤ length (now s)) ⌝ }
+    requires { ⌜ (n ≤ most-pairs) × (bytes n ≤ length (now s)) ⌝ }
     ensures { λ r. ⌜ Count n (now (s .entry)) r ⌝ }
 {
     let mut r: usize = 0;
@@ -78,14 +85,14 @@ pub fn put(s: &mut [u8], i: usize, b: bool)
     }
 }
 
-// The first m bytes, set to 0.
-pub fn wipe(s: &mut [u8], m: usize)
+// The first m bytes, set to b.
+pub fn fill(s: &mut [u8], m: usize, b: u8)
     requires { ⌜ m ≤ length (now s) ⌝ }
-    ensures { λ _. ⌜ now (s .exit) ≡ written (λ (i : ℕ). 0) m (now (s .entry)) ⌝ }
+    ensures { λ _. ⌜ now (s .exit) ≡ written (λ (i : ℕ). b) m (now (s .entry)) ⌝ }
 {
     let mut i: usize = 0;
     while i < m {
-        s[i] = 0;
+        s[i] = b;
         i += 1;
     }
 }

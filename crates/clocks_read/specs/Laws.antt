@@ -34,14 +34,16 @@ pub record Read (s : List ℕ) : Type 0 where
   pub accepted : accepted.Accepted (read-outcome s .text)
   pub states : read-outcome s .states ≡ state-count (read-outcome s .text)
 
-judged-accepted : (j : Judged) (t : Text) → judged-reading j t .answer ≡ Accepted → (j ≡ Clean) × (judged-reading j t .text ≡ t) × (judged-reading j t .states ≡ state-count t)
+judged-accepted : (j : Judged) (t : Text) → judged-reading j t .answer ≡ Accepted → (j ≡ Clean)
+    × (judged-reading j t .text ≡ t) × (judged-reading j t .states ≡ state-count t)
 unfolding judged-reading refused
 judged-accepted Clean t e = (refl, refl, refl)
 judged-accepted (TooMany n) t e = let z : _≡_ {A = ℕ} 0 1 = cc in absurd (omega arith)
 judged-accepted (NoMove s c) t e = let z : _≡_ {A = ℕ} 0 1 = cc in absurd (omega arith)
 judged-accepted (TwoEdges s c) t e = let z : _≡_ {A = ℕ} 0 1 = cc in absurd (omega arith)
 
-parsed-accepted : (a : Answer) (t : Text) → parsed-reading a t .answer ≡ Accepted → (a ≡ parsed.Accepted) × (judgement t ≡ Clean) × (parsed-reading a t .text ≡ t) × (parsed-reading a t .states ≡ state-count t)
+parsed-accepted : (a : Answer) (t : Text) → parsed-reading a t .answer ≡ Accepted → (a ≡ parsed.Accepted)
+    × (judgement t ≡ Clean) × (parsed-reading a t .text ≡ t) × (parsed-reading a t .states ≡ state-count t)
 unfolding parsed-reading refused
 parsed-accepted parsed.Accepted t e = let (a, b, c) = judged-accepted (judgement t) t e in (refl, a, b, c)
 parsed-accepted (parsed.Refused f) t e = let z : _≡_ {A = ℕ} 0 1 = cc in absurd (omega arith)
@@ -59,7 +61,8 @@ read-accepted s e =
     }
 
 -- conversely, a text that is read and accepted as a record is accepted
-pub accepted-read : (s : List ℕ) → read-text s .answer ≡ parsed.Accepted → accepted.Accepted (read-text s .text) → read-outcome s ≡ record { answer = Accepted; text = read-text s .text; states = state-count (read-text s .text) }
+pub accepted-read : (s : List ℕ) → read-text s .answer ≡ parsed.Accepted → accepted.Accepted (read-text s .text)
+    → read-outcome s ≡ record { answer = Accepted; text = read-text s .text; states = state-count (read-text s .text) }
 unfolding read-outcome parsed-reading judged-reading
 accepted-read s e a = rw (e, a .clean)
 
@@ -77,13 +80,15 @@ unfolding too-many
 within t e = le-ltb state-limit (state-count t) (judgement-few t e)
 
 -- for an accepted text the table and the bits are filled
-pub load-moves : (s m h : List ℕ) → read-outcome s .answer ≡ Accepted → load-outcome s m h .moves ≡ written (table-entry (read-outcome s .text)) (table-size (read-outcome s .text)) m
+pub load-moves : (s m h : List ℕ) → read-outcome s .answer ≡ Accepted → load-outcome s m h .moves
+    ≡ written (table-entry (read-outcome s .text)) (table-size (read-outcome s .text)) m
 unfolding load-outcome parsed-loading judged-loading judged-table
 load-moves s m h e =
     let r = read-accepted s e in
     rw (r .same, r .parsed) (rw (within (read-text s .text) (rw (r .same) at (r .accepted .clean)), judged-table))
 
-pub load-holds : (s m h : List ℕ) → read-outcome s .answer ≡ Accepted → load-outcome s m h .holds ≡ packed (state-count (read-outcome s .text)) (invariants (read-outcome s .text)) h
+pub load-holds : (s m h : List ℕ) → read-outcome s .answer ≡ Accepted → load-outcome s m h .holds
+    ≡ packed (state-count (read-outcome s .text)) (invariants (read-outcome s .text)) h
 unfolding load-outcome parsed-loading judged-loading judged-holds
 load-holds s m h e =
     let r = read-accepted s e in

@@ -42,7 +42,12 @@ pub record Loading : Type 0 where
   pub holds : List ℕ
 
 unfoldable pub judged-loading : Text → List ℕ → List ℕ → Loading
-judged-loading t m h = record { reading = judged-reading (judgement t) t; moves = judged-table t m; holds = judged-holds t h }
+judged-loading t m h = record {
+  reading = judged-reading (judgement t) t;
+  moves = judged-table t m;
+  holds =
+      judged-holds t h;
+}
 
 unfoldable pub parsed-loading : Answer → Text → List ℕ → List ℕ → Loading
 parsed-loading parsed.Accepted t m h = judged-loading t m h

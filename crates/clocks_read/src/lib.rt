@@ -73,7 +73,8 @@ fn answer_of(j: Judged, t: Text, n: usize) -> Reading
 // The judgement of codes 9 to 11 on a text that was read.
 fn judged(t: Text, moves: &mut [u16], holds: &mut [u8]) -> Reading
     requires { ⌜ Well-formed t × (table-limit ≤ length (now moves)) × (bytes-limit ≤ length (now holds)) ⌝ }
-    ensures { λ r. ⌜ _≡_ {A = Loading} (record { reading = r; moves = now (moves .exit); holds = now (holds .exit) }) (judged-loading t (now (moves .entry)) (now (holds .entry))) ⌝ }
+    ensures { λ r. ⌜ _≡_ {A = Loading} (record { reading = r; moves = now (moves .exit); holds = now (holds .exit) })
+        (judged-loading t (now (moves .entry)) (now (holds .entry))) ⌝ }
 {
     let r = clocks_states::ranges_of(t);
     let n = clocks_states::state_count_of(t, r);
@@ -81,10 +82,12 @@ fn judged(t: Text, moves: &mut [u16], holds: &mut [u8]) -> Reading
     answer_of(j, t, n)
 }
 
-// Reads a text for an operation that goes on with its states: the move table and the bits of the states whose invariant holds are filled.
+// Reads a text for an operation that goes on with its states: the move table
+// and the bits of the states whose invariant holds are filled.
 pub fn load(text: &[u8], moves: &mut [u16], holds: &mut [u8]) -> Reading
     requires { ⌜ (table-limit ≤ length (now moves)) × (bytes-limit ≤ length (now holds)) ⌝ }
-    ensures { λ r. ⌜ _≡_ {A = Loading} (record { reading = r; moves = now (moves .exit); holds = now (holds .exit) }) (load-outcome (now (text .entry)) (now (moves .entry)) (now (holds .entry))) ⌝ }
+    ensures { λ r. ⌜ _≡_ {A = Loading} (record { reading = r; moves = now (moves .exit); holds = now (holds .exit) })
+        (load-outcome (now (text .entry)) (now (moves .entry)) (now (holds .entry))) ⌝ }
 {
     let parsed = reader::parse(text);
     let answer = parsed.answer;

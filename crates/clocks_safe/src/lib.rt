@@ -4,20 +4,20 @@ ghost use mathlib.Core.List.{List};
 ghost use Prim.Native.Nat.{ℕ, _+_, _-_, _*_, _/_, _%_, _^_, _≤_, _<_};
 ghost use lib.ListN.{length, getD, set};
 ghost use Rattle.clocks_bits.specs.Bits.{bit-at};
-ghost use Rattle.clocks_bits.specs.Moves.{Bounded, Encoded};
+ghost use Rattle.clocks_bits.specs.Moves.{Bounded, Encoded, no-move};
 ghost use Rattle.clocks_bits.specs.Packed.{bytes, Counted, Bitmap};
-ghost use Rattle.clocks_safe.specs.Test.{input-passes, own-passes, inputs-stay, own-stays, passes};
+ghost use Rattle.clocks_safe.specs.Test.{input-passes, own-passes, decides, some-decides, passes, Visits};
 ghost use Rattle.clocks_safe.specs.Settle.{Visited, Settled, Safe-answer};
 
 // An input's move, if there is one, stays in the set.
 fn input_passes(keep: &[u8], t: usize, input: bool) -> bool
-    requires { ⌜ ((t ≡ 65535 → ⊥) → t / 8 < length (now keep)) ⌝ }
+    requires { ⌜ ((t ≡ no-move → ⊥) → t / 8 < length (now keep)) ⌝ }
     ensures { λ r. ⌜ r ≡ input-passes (bit-at (now (keep .entry))) t input ⌝ }
 {
     if !input {
         return true;
     }
-    if t == 65535 {
+    if t == clocks_bits::NO_TARGET {
         return true;
     }
     clocks_bits::get(keep, t)
@@ -25,50 +25,52 @@ fn input_passes(keep: &[u8], t: usize, input: bool) -> bool
 
 // A step of the system's own is there and stays in the set.
 fn own_passes(keep: &[u8], t: usize, input: bool) -> bool
-    requires { ⌜ ((t ≡ 65535 → ⊥) → t / 8 < length (now keep)) ⌝ }
+    requires { ⌜ ((t ≡ no-move → ⊥) → t / 8 < length (now keep)) ⌝ }
     ensures { λ r. ⌜ r ≡ own-passes (bit-at (now (keep .entry))) t input ⌝ }
 {
     if input {
         return false;
     }
-    if t == 65535 {
+    if t == clocks_bits::NO_TARGET {
         return false;
     }
     clocks_bits::get(keep, t)
 }
 
-fn inputs_stay(
+// Whether a step decides the test of its state by itself: an input that leaves the set or, with `own`, a step of the
+// system's own that stays in it.
+fn decides(keep: &[u8], t: usize, input: bool, own: bool) -> bool
+    requires { ⌜ ((t ≡ no-move → ⊥) → t / 8 < length (now keep)) ⌝ }
+    ensures { λ r. ⌜ r ≡ decides own (bit-at (now (keep .entry))) t input ⌝ }
+{
+    if own {
+        return own_passes(keep, t, input);
+    }
+    if input_passes(keep, t, input) {
+        return false;
+    }
+    true
+}
+
+// Whether some step of state s decides.
+fn some_decides(
     keep: &[u8],
     moves: &[u16],
     inputs: &[bool],
     n: usize,
     steps: usize,
     s: usize,
+    own: bool,
 ) -> bool
-    requires { ⌜ Bounded n steps (now moves) × ((steps ≤ length (now inputs)) × ((s < n) × (bytes n ≤ length (now keep)))) ⌝ }
-    ensures { λ r. ⌜ r ≡ inputs-stay (now (moves .entry)) (now (inputs .entry)) steps (bit-at (now (keep .entry))) s ⌝ }
+    requires { ⌜ Visits n steps (now moves) (now inputs) (now keep) s ⌝ }
+    ensures { λ r. ⌜ r ≡ some-decides (now (moves .entry)) (now (inputs .entry)) steps (bit-at (now (keep .entry))) s
+        own ⌝ }
 {
     let base = s * steps;
     let mut c: usize = 0;
     while c < steps {
         let t = moves[base + c] as usize;
-        if !input_passes(keep, t, inputs[c]) {
-            return false;
-        }
-        c += 1;
-    }
-    true
-}
-
-fn own_stays(keep: &[u8], moves: &[u16], inputs: &[bool], n: usize, steps: usize, s: usize) -> bool
-    requires { ⌜ Bounded n steps (now moves) × ((steps ≤ length (now inputs)) × ((s < n) × (bytes n ≤ length (now keep)))) ⌝ }
-    ensures { λ r. ⌜ r ≡ own-stays (now (moves .entry)) (now (inputs .entry)) steps (bit-at (now (keep .entry))) s ⌝ }
-{
-    let base = s * steps;
-    let mut c: usize = 0;
-    while c < steps {
-        let t = moves[base + c] as usize;
-        if own_passes(keep, t, inputs[c]) {
+        if decides(keep, t, inputs[c], own) {
             return true;
         }
         c += 1;
@@ -77,19 +79,20 @@ fn own_stays(keep: &[u8], moves: &[u16], inputs: &[bool], n: usize, steps: usize
 }
 
 fn passes(keep: &[u8], moves: &[u16], inputs: &[bool], n: usize, steps: usize, s: usize) -> bool
-    requires { ⌜ Bounded n steps (now moves) × ((steps ≤ length (now inputs)) × ((s < n) × (bytes n ≤ length (now keep)))) ⌝ }
+    requires { ⌜ Visits n steps (now moves) (now inputs) (now keep) s ⌝ }
     ensures { λ r. ⌜ r ≡ passes (now (moves .entry)) (now (inputs .entry)) steps (bit-at (now (keep .entry))) s ⌝ }
 {
-    if !inputs_stay(keep, moves, inputs, n, steps, s) {
+    if some_decides(keep, moves, inputs, n, steps, s, false) {
         return false;
     }
-    own_stays(keep, moves, inputs, n, steps, s)
+    some_decides(keep, moves, inputs, n, steps, s, true)
 }
 
 // Takes state s out if it is in and fails the test, and says how many that were.
 fn visit(keep: &mut [u8], moves: &[u16], inputs: &[bool], n: usize, steps: usize, s: usize) -> usize
-    requires { ⌜ Bounded n steps (now moves) × ((steps ≤ length (now inputs)) × ((s < n) × (bytes n ≤ length (now keep)))) ⌝ }
-    ensures { λ r. ⌜ Visited (now (moves .entry)) (now (inputs .entry)) steps (now (keep .entry)) s (now (keep .exit)) r ⌝ }
+    requires { ⌜ Visits n steps (now moves) (now inputs) (now keep) s ⌝ }
+    ensures { λ r. ⌜ Visited (now (moves .entry)) (now (inputs .entry)) steps (now (keep .entry)) s (now (keep .exit)) r
+        ⌝ }
 {
     if !clocks_bits::get(keep, s) {
         return 0;
@@ -101,7 +104,8 @@ fn visit(keep: &mut [u8], moves: &[u16], inputs: &[bool], n: usize, steps: usize
     1
 }
 
-// From the states whose invariant holds, `count` of them, to the safe states: sweeps from the last state to the first until one takes nothing out.
+// From the states whose invariant holds, `count` of them, to the safe states:
+// sweeps from the last state to the first until one takes nothing out.
 pub fn settle(
     keep: &mut [u8],
     moves: &[u16],
@@ -111,7 +115,8 @@ pub fn settle(
     count: usize,
 ) -> usize
     requires { ⌜ Bounded n steps (now moves) × ((steps ≤ length (now inputs)) × Counted n (now keep) count) ⌝ }
-    ensures { λ r. ⌜ Settled (now (moves .entry)) (now (inputs .entry)) n steps (now (keep .entry)) (now (keep .exit)) r ⌝ }
+    ensures { λ r. ⌜ Settled (now (moves .entry)) (now (inputs .entry)) n steps (now (keep .entry)) (now (keep .exit)) r
+        ⌝ }
 {
     let mut left = count;
     loop {
@@ -137,8 +142,10 @@ pub fn safe(
     n: usize,
     steps: usize,
 ) -> usize
-    requires { ⌜ Bounded n steps (now moves) × ((steps ≤ length (now inputs)) × (Bitmap n (now holds) × (bytes n ≤ length (now keep)))) ⌝ }
-    ensures { λ r. ⌜ Safe-answer (now (holds .entry)) (now (moves .entry)) (now (inputs .entry)) n steps (now (keep .entry)) (now (keep .exit)) r ⌝ }
+    requires { ⌜ Bounded n steps (now moves) × ((steps ≤ length (now inputs))
+        × (Bitmap n (now holds) × (bytes n ≤ length (now keep)))) ⌝ }
+    ensures { λ r. ⌜ Safe-answer (now (holds .entry)) (now (moves .entry)) (now (inputs .entry)) n steps
+        (now (keep .entry)) (now (keep .exit)) r ⌝ }
 {
     let m = (n + 7) / 8;
     clocks_bits::copy(keep, holds, m);

@@ -1,5 +1,5 @@
--- What the demands ask of the operations' own outcomes, for two accepted texts with equal channels. Definitions only: the
--- theorems are in Guarantees.antt.
+-- What the demands ask of the operations' own outcomes, for two accepted texts with equal channels. Definitions only:
+-- the theorems are in Guarantees.antt.
 use mathlib.Core.Path.{_≡_}
 use mathlib.Core.Logic.{_↔_, _⊎_}
 use mathlib.Core.Bool.{Bool, false}
@@ -57,8 +57,8 @@ pub record Search-demand (left right : List ℕ) (a : Accepted-text left) (b : A
       → (Allows (right-meaning left right b) w → ⊥) → (0 < n) × (n ≤ length w)
   -- n is at most left states × right states
   pub bounded : n ≤ states left * states right
-  -- "n, the steps of a shortest [departure] or 0 if there is none"; "Of the shortest runs it writes the one smallest step
-  -- by step"; whatever set S is the left's safe states
+  -- "n, the steps of a shortest [departure] or 0 if there is none"; "Of the shortest runs it writes the one smallest
+  -- step by step"; whatever set S is the left's safe states
   pub none-left : (S : meaning left a .State → Type 0) → Largest-safe-set (meaning left a) S
       → n ≡ 0 → No-departure (meaning left a) (right-meaning left right b) S
   pub shortest : (S : meaning left a .State → Type 0) → Largest-safe-set (meaning left a) S
@@ -71,8 +71,8 @@ pub record Search-demand (left right : List ℕ) (a : Accepted-text left) (b : A
 -- What is asked of the check's outcome o for a table, where keep came as `keep`.
 pub record Check-demand (left right : List ℕ) (a : Accepted-text left) (b : Accepted-text right)
     (keep given : List ℕ) (o : Checked) : Type 1 where
-  -- the table is accepted exactly when the relation it denotes over uncapped clocks contains the start pair and meets the
-  -- rules; S: the left's safe states
+  -- the table is accepted exactly when the relation it denotes over uncapped clocks contains the start pair and meets
+  -- the rules; S: the left's safe states
   pub accepted : (S : meaning left a .State → Type 0) → Largest-safe-set (meaning left a) S
       → ((n : ℕ) × (o .answer ≡ checked.Accepted n))
       ↔ (Denotes left right a b given (meaning left a .start) (right-meaning left right b .start)

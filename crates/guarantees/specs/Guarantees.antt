@@ -1,8 +1,8 @@
 -- THE GUARANTEES, to be read first. The demands as theorems about the operations' own outcomes (safe-outcome,
 -- search-outcome, check-outcome, widest-outcome), which the contracts of the operations equate with what the code
--- answers and leaves in the lent slices.
--- The words are defined in Texts.antt and, for systems, in crate systems, Definitions.antt; what each demand asks, clause by
--- clause, is a record or a type of cases in Demands.antt. The other files of this crate are proofs.
+-- answers and leaves in the lent slices. The words are defined in Texts.antt and, for systems, in crate systems,
+-- Definitions.antt; what each demand asks, clause by clause, is a record or a type of cases in Demands.antt. The
+-- other files of this crate are proofs.
 use mathlib.Core.Path.{_≡_}
 use mathlib.Core.Logic.{_↔_}
 use mathlib.Core.Option.{none, some}

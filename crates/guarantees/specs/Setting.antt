@@ -1,5 +1,5 @@
--- Two accepted texts with equal channels: codes 1 to 12 find nothing, and the systems that the operations compute on are
--- those of the texts with their clocks capped.
+-- Two accepted texts with equal channels: codes 1 to 12 find nothing, and the systems that the operations compute on
+-- are those of the texts with their clocks capped.
 use mathlib.Core.Path.{_≡_, refl, sym, ap, subst, _∙_}
 use mathlib.Core.Logic.{_↔_}
 use mathlib.Core.Bool.{Bool, true, false, cond}

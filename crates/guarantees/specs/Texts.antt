@@ -91,8 +91,8 @@ pub record Long-enough (o : Option Refusal) : Type 0 where
   pub queue : Without 15 o
   pub run : Without 21 o
 
--- "one bit per state into the keep slice, state 0 in the high bit of byte 0, spare bits 0": the bit of a configuration's
--- state says whether it is in S, the safe states; later bytes are as they were
+-- "one bit per state into the keep slice, state 0 in the high bit of byte 0, spare bits 0": the bit of a
+-- configuration's state says whether it is in S, the safe states; later bytes are as they were
 pub record Keeps (s : List ℕ) (a : Accepted-text s) (S : meaning s a .State → Type 0) (before after : List ℕ) : Type
     0 where
   pub safe-bits : (x : meaning s a .State) → number s a x < states s → T (bit-at after (number s a x)) ↔ S x

@@ -1,4 +1,5 @@
--- That the hypotheses of the demands can be met: by document 01's Post against itself, with slices that are long enough.
+-- That the hypotheses of the demands can be met: by document 01's
+-- Post against itself, with slices that are long enough.
 use mathlib.Core.Path.{_≡_, sym, ap, subst, _∙_}
 use mathlib.Core.Bool.{Bool, true}
 use mathlib.Core.Option.{Option, none}

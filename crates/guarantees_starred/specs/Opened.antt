@@ -1,4 +1,5 @@
--- What the posts open to compute: states and moves, the pairing of channels, tables, and the fast forms of the fixed points.
+-- What the posts open to compute: states and moves, the pairing of
+-- channels, tables, and the fast forms of the fixed points.
 use Rattle.systems.specs.Tests.{all, any}
 use Rattle.systems.specs.Compute.{opened-fast}
 use Rattle.systems.specs.Renumbered.{renumbered}

@@ -1,4 +1,5 @@
--- Two of the five texts together: their systems as the operations compute on them, and the runs, tables and checks computed.
+-- Two of the five texts together: their systems as the operations
+-- compute on them, and the runs, tables and checks computed.
 use mathlib.Core.Path.{_≡_, refl}
 use mathlib.Core.List.{List, [], _∷_}
 use Prim.Native.Nat.{ℕ}

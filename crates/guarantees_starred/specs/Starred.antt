@@ -15,6 +15,8 @@ use Rattle.clocks_bits.specs.Bits.{bit-at}
 use Rattle.clocks_bits.specs.Packed.{packed}
 use Rattle.clocks_read.specs.declared.Reading.{Reading}
 use Rattle.clocks_read.specs.Reading.{read-outcome}
+use Rattle.pairing.specs.Channels.{unmatched}
+use Rattle.pairing.specs.declared.Matched.the-variants.{Equal}
 use Rattle.two_texts.specs.Two.{left-system, right-system}
 use Rattle.search.specs.declared.SearchAnswer.the-variants.{Found, Refused}
 use Rattle.search.specs.Outcome as search
@@ -31,7 +33,7 @@ use Rattle.safe_states.specs.declared.SafeAnswer.the-variants as counted
 use Rattle.safe_states.specs.Outcome.{safe-outcome}
 use Rattle.guarantees_starred.specs.Safe.{post-counted, hush-counted}
 use Rattle.guarantees_starred.specs.Opened.{opened-states, opened-pairing}
-use Rattle.guarantees_starred.specs.Posts.{post-outcome, rearm-outcome, early-outcome, hush-outcome, idle-outcome, post-keep, rearm-keep, early-keep, hush-keep, idle-keep, post-safe, rearm-safe, early-safe, hush-safe, idle-safe}
+use Rattle.guarantees_starred.specs.Posts.{reading-of, post-outcome, rearm-outcome, early-outcome, hush-outcome, idle-outcome, post-keep, rearm-keep, early-keep, hush-keep, idle-keep, post-safe, rearm-safe, early-safe, hush-safe, idle-safe}
 use Rattle.guarantees_starred.specs.Runs.{Pair, left-of, right-of, post-post-equal, early-post-equal, idle-post-equal, post-idle-equal, post-hush-equal, rearm-post-equal, hush-post-equal, post-post-run, early-post-run, idle-post-run, post-idle-run, post-hush-run, rearm-post-run}
 use Rattle.guarantees_starred.specs.Tables.{widest-raster, diagonal-raster, start-raster, ten-by-ten, post-pairs, post-widest, post-count, post-file, file-size, header-size, rearm-count, rearm-start, diagonal-judged, start-judged, diagonal-count, diagonal-fits, start-fits}
 use Rattle.guarantees_starred.specs.Outcomes.{Room, compares, of-texts, search-is, check-is, widest-is, search-found, search-refused, widest-found, check-found}
@@ -86,83 +88,49 @@ hush-post-facts : (p : Pair hush post hush-record post-record)
 unfolding opened-states opened-pairing
 hush-post-facts p = record { size = refl; size' = refl; start = refl; start' = refl; safe = hush-safe (p .left-text) }
 
-post-post-searched : Searches post post 10 10 0 ([])
-post-post-searched keep back line run room =
-    let f = of-texts post post post-record post-record post-outcome post-outcome post-post-equal
-    (Facts 10 10 post-keep post post) post-post-facts in
-    let e : search-outcome post post keep back line run ≡ search.found ([]) (packed 10 post-keep keep) run =
-    search-is post post post-record post-record post-outcome post-outcome post-post-equal keep back line run
-    ∙ search-found (compares post post post-record post-record post-outcome post-outcome post-post-equal) 10 10
-    post-keep (f .size) (f .size') (f .safe) ([]) (ap (at post-keep) (f .start))
-    (of-texts post post post-record post-record post-outcome post-outcome post-post-equal
-    (λ l r p. search-run (left-of p) (right-of p) ≡ []) post-post-run) keep back line run room in
-    (ap (λ (o : search.Outcome). o .answer) e, ap (λ (o : search.Outcome). o .run) e)
+-- a search whose sizes, safe states and run are computed
+searched : (s u : List ℕ) (l r : Text) (a : read-outcome s ≡ reading-of l) (b : read-outcome u ≡ reading-of r)
+    (e : unmatched s l u r ≡ Equal) {n m : ℕ} {K : List Bool} → ((p : Pair s u l r) → Facts n m K s u l r p)
+    → at K 0 ≡ true → (w : List ℕ) → ((p : Pair s u l r) → search-run (left-of p) (right-of p) ≡ w)
+    → Searches s u n m (length w) w
+searched s u l r a b e {n} {m} {K} facts safe-start w run-is keep back line run room =
+    let f = of-texts s u l r a b e (Facts n m K s u) facts in
+    let is-w = of-texts s u l r a b e (λ l r p. search-run (left-of p) (right-of p) ≡ w) run-is in
+    let o : search-outcome s u keep back line run ≡ search.found w (packed n K keep) run =
+    search-is s u l r a b e keep back line run
+    ∙ search-found (compares s u l r a b e) n m K (f .size) (f .size') (f .safe) w
+    (ap (at K) (f .start) ∙ safe-start) is-w keep back line run room in
+    (ap (λ (x : search.Outcome). x .answer) o, ap (λ (x : search.Outcome). x .run) o)
+
+post-post-searched : Searches post post 10 10 0 []
+post-post-searched =
+    searched post post post-record post-record post-outcome post-outcome post-post-equal post-post-facts refl []
+    post-post-run
 
 early-post-searched : Searches early post 8 10 3 (0 ∷ 0 ∷ 3 ∷ [])
-early-post-searched keep back line run room =
-    let f = of-texts early post early-record post-record early-outcome post-outcome early-post-equal
-    (Facts 8 10 early-keep early post) early-post-facts in
-    let e : search-outcome early post keep back line run
-    ≡ search.found (0 ∷ 0 ∷ 3 ∷ []) (packed 8 early-keep keep) run =
-    search-is early post early-record post-record early-outcome post-outcome early-post-equal keep back line run
-    ∙ search-found (compares early post early-record post-record early-outcome post-outcome early-post-equal) 8 10
-    early-keep (f .size) (f .size') (f .safe) (0 ∷ 0 ∷ 3 ∷ []) (ap (at early-keep) (f .start))
-    (of-texts early post early-record post-record early-outcome post-outcome early-post-equal
-    (λ l r p. search-run (left-of p) (right-of p) ≡ 0 ∷ 0 ∷ 3 ∷ []) early-post-run) keep back line run room in
-    (ap (λ (o : search.Outcome). o .answer) e, ap (λ (o : search.Outcome). o .run) e)
+early-post-searched =
+    searched early post early-record post-record early-outcome post-outcome early-post-equal early-post-facts refl
+    (0 ∷ 0 ∷ 3 ∷ []) early-post-run
 
 idle-post-searched : Searches idle post 4 10 4 (0 ∷ 0 ∷ 0 ∷ 0 ∷ [])
-idle-post-searched keep back line run room =
-    let f = of-texts idle post idle-record post-record idle-outcome post-outcome idle-post-equal
-    (Facts 4 10 idle-keep idle post) idle-post-facts in
-    let e : search-outcome idle post keep back line run
-    ≡ search.found (0 ∷ 0 ∷ 0 ∷ 0 ∷ []) (packed 4 idle-keep keep) run =
-    search-is idle post idle-record post-record idle-outcome post-outcome idle-post-equal keep back line run
-    ∙ search-found (compares idle post idle-record post-record idle-outcome post-outcome idle-post-equal) 4 10
-    idle-keep (f .size) (f .size') (f .safe) (0 ∷ 0 ∷ 0 ∷ 0 ∷ []) (ap (at idle-keep) (f .start))
-    (of-texts idle post idle-record post-record idle-outcome post-outcome idle-post-equal
-    (λ l r p. search-run (left-of p) (right-of p) ≡ 0 ∷ 0 ∷ 0 ∷ 0 ∷ []) idle-post-run) keep back line run room in
-    (ap (λ (o : search.Outcome). o .answer) e, ap (λ (o : search.Outcome). o .run) e)
+idle-post-searched =
+    searched idle post idle-record post-record idle-outcome post-outcome idle-post-equal idle-post-facts refl
+    (0 ∷ 0 ∷ 0 ∷ 0 ∷ []) idle-post-run
 
 post-idle-searched : Searches post idle 10 4 4 (0 ∷ 0 ∷ 0 ∷ 3 ∷ [])
-post-idle-searched keep back line run room =
-    let f = of-texts post idle post-record idle-record post-outcome idle-outcome post-idle-equal
-    (Facts 10 4 post-keep post idle) post-idle-facts in
-    let e : search-outcome post idle keep back line run
-    ≡ search.found (0 ∷ 0 ∷ 0 ∷ 3 ∷ []) (packed 10 post-keep keep) run =
-    search-is post idle post-record idle-record post-outcome idle-outcome post-idle-equal keep back line run
-    ∙ search-found (compares post idle post-record idle-record post-outcome idle-outcome post-idle-equal) 10 4
-    post-keep (f .size) (f .size') (f .safe) (0 ∷ 0 ∷ 0 ∷ 3 ∷ []) (ap (at post-keep) (f .start))
-    (of-texts post idle post-record idle-record post-outcome idle-outcome post-idle-equal
-    (λ l r p. search-run (left-of p) (right-of p) ≡ 0 ∷ 0 ∷ 0 ∷ 3 ∷ []) post-idle-run) keep back line run room in
-    (ap (λ (o : search.Outcome). o .answer) e, ap (λ (o : search.Outcome). o .run) e)
+post-idle-searched =
+    searched post idle post-record idle-record post-outcome idle-outcome post-idle-equal post-idle-facts refl
+    (0 ∷ 0 ∷ 0 ∷ 3 ∷ []) post-idle-run
 
 post-hush-searched : Searches post hush 10 10 4 (0 ∷ 0 ∷ 0 ∷ 3 ∷ [])
-post-hush-searched keep back line run room =
-    let f = of-texts post hush post-record hush-record post-outcome hush-outcome post-hush-equal
-    (Facts 10 10 post-keep post hush) post-hush-facts in
-    let e : search-outcome post hush keep back line run
-    ≡ search.found (0 ∷ 0 ∷ 0 ∷ 3 ∷ []) (packed 10 post-keep keep) run =
-    search-is post hush post-record hush-record post-outcome hush-outcome post-hush-equal keep back line run
-    ∙ search-found (compares post hush post-record hush-record post-outcome hush-outcome post-hush-equal) 10 10
-    post-keep (f .size) (f .size') (f .safe) (0 ∷ 0 ∷ 0 ∷ 3 ∷ []) (ap (at post-keep) (f .start))
-    (of-texts post hush post-record hush-record post-outcome hush-outcome post-hush-equal
-    (λ l r p. search-run (left-of p) (right-of p) ≡ 0 ∷ 0 ∷ 0 ∷ 3 ∷ []) post-hush-run) keep back line run room in
-    (ap (λ (o : search.Outcome). o .answer) e, ap (λ (o : search.Outcome). o .run) e)
+post-hush-searched =
+    searched post hush post-record hush-record post-outcome hush-outcome post-hush-equal post-hush-facts refl
+    (0 ∷ 0 ∷ 0 ∷ 3 ∷ []) post-hush-run
 
 rearm-post-searched : Searches rearm post 10 10 5 (0 ∷ 0 ∷ 0 ∷ 2 ∷ 0 ∷ [])
-rearm-post-searched keep back line run room =
-    let f = of-texts rearm post rearm-record post-record rearm-outcome post-outcome rearm-post-equal
-    (Facts 10 10 rearm-keep rearm post) rearm-post-facts in
-    let e : search-outcome rearm post keep back line run
-    ≡ search.found (0 ∷ 0 ∷ 0 ∷ 2 ∷ 0 ∷ []) (packed 10 rearm-keep keep) run =
-    search-is rearm post rearm-record post-record rearm-outcome post-outcome rearm-post-equal keep back line run
-    ∙ search-found (compares rearm post rearm-record post-record rearm-outcome post-outcome rearm-post-equal) 10 10
-    rearm-keep (f .size) (f .size') (f .safe) (0 ∷ 0 ∷ 0 ∷ 2 ∷ 0 ∷ []) (ap (at rearm-keep) (f .start))
-    (of-texts rearm post rearm-record post-record rearm-outcome post-outcome rearm-post-equal
-    (λ l r p. search-run (left-of p) (right-of p) ≡ 0 ∷ 0 ∷ 0 ∷ 2 ∷ 0 ∷ []) rearm-post-run) keep back line run
-    room in
-    (ap (λ (o : search.Outcome). o .answer) e, ap (λ (o : search.Outcome). o .run) e)
+rearm-post-searched =
+    searched rearm post rearm-record post-record rearm-outcome post-outcome rearm-post-equal rearm-post-facts refl
+    (0 ∷ 0 ∷ 0 ∷ 2 ∷ 0 ∷ []) rearm-post-run
 
 -- the number of the start pair
 start-pair : (s m t : ℕ) → s ≡ 0 → t ≡ 0 → s * m + t ≡ 0

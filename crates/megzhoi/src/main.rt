@@ -1,5 +1,5 @@
-// The program of document 01: opens left.xta and right.xta, searches for a departure, and prints NO with its steps, YES with
-// the widest table's count, or a refusal.
+// The program of document 01: opens left.xta and right.xta, searches for a departure, and prints NO with its steps,
+// YES with the widest table's count, or a refusal.
 use reader_record::Channel;
 use reader_record::Direction;
 use reader_record::Text;

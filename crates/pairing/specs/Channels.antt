@@ -89,7 +89,8 @@ verdict c d =
 unfoldable pub unmatched : List ℕ → Text → List ℕ → Text → Matched
 unmatched s l u r = verdict (first-unmatched s l u r) (first-unmatched u r s l)
 
--- the right's number of the left's step c: the tick is the tick, a channel its partner; 0 where the left has no such step
+-- the right's number of the left's step c: the tick is the tick, a
+-- channel its partner; 0 where the left has no such step
 unfoldable pub right-step : List ℕ → Text → List ℕ → Text → ℕ → ℕ
 right-step s l u r c = cond (ltb 0 c && leb c (l .«channel_count»)) (partner s (name-of l c) u r) 0
 

@@ -33,8 +33,8 @@ name-within s t w c k = w .within .channel (c - 1) (omega (arith, k .from-one, k
 
 -- channels of one text with one spelling are one channel
 one-channel :
-    (s : List ℕ) (t : Text) → Well-named s t → (c d : ℕ) → Channel t c → Channel t d →
-    spelling s (name-of t c) ≡ spelling s (name-of t d) → c ≡ d
+    (s : List ℕ) (t : Text) → Well-named s t → (c d : ℕ) → Channel t c → Channel t d
+    → spelling s (name-of t c) ≡ spelling s (name-of t d) → c ≡ d
 unfolding alike
 one-channel s t w c d k m e =
     when-equal (c ≡ d) c d
@@ -90,14 +90,15 @@ module _ (s : List ℕ) (l : Text) (u : List ℕ) (r : Text) where
         other = partner s (name-of l c) u r;
         there = p .there;
         spelled = p .spelled;
-        direction = agree-equal (input l c) (input r (partner s (name-of l c) u r)) (sym (matched-some s l u r c _ refl z) ∙ e);
+        direction = agree-equal (input l c) (input r (partner s (name-of l c) u r))
+            (sym (matched-some s l u r c _ refl z) ∙ e);
       })
 
   module _ (wl : Well-named s l) (wr : Well-named u r) where
     -- the channel with that name is the partner
     partner-is :
-        (c d : ℕ) → Channel l c → Channel r d → spelling s (name-of l c) ≡ spelling u (name-of r d) →
-        partner s (name-of l c) u r ≡ d
+        (c d : ℕ) → Channel l c → Channel r d → spelling s (name-of l c) ≡ spelling u (name-of r d)
+        → partner s (name-of l c) u r ≡ d
     partner-is c d k m e =
         let q = spelled-alike s (name-of l c) u (name-of r d) (name-within s l wl c k) (name-within u r wr d m) e in
         let p = partner-found c (partner-some c d m q) in
@@ -123,8 +124,10 @@ module _ (s : List ℕ) (l : Text) (u : List ℕ) (r : Text) where
         (λ z. z)
         (λ z.
         let i = lowest-found (λ i. not (matched s l u r i)) (l .«channel_count») (omega arith) in
-        let k : Channel l (first-unmatched s l u r) = record { from-one = omega arith; declared = omega (arith, i .high) } in
-        never (sym (shared-matched (first-unmatched s l u r) k (f (first-unmatched s l u r) k)) ∙ not-true (matched s l u r (first-unmatched s l u r)) (i .passes)))
+        let k : Channel l (first-unmatched s l u r) =
+        record { from-one = omega arith; declared = omega (arith, i .high) } in
+        never (sym (shared-matched (first-unmatched s l u r) k (f (first-unmatched s l u r) k))
+        ∙ not-true (matched s l u r (first-unmatched s l u r)) (i .passes)))
 
 -- the verdict of the two searches
 abbrev Is-equal : Matched → Type 0

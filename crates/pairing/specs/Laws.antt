@@ -28,15 +28,15 @@ module _ (s : List ℕ) (m : Name) (u : List ℕ) (r : Text) where
 
   module _ (d : ℕ) where
     pub seek-finds :
-        d ≤ r .«channel_count» →
-        same (m .len) (drop (m .place) s) (name-of r d .len) (drop (name-of r d .place) u) ≡ true → seek s m u r d ≡ d
+        d ≤ r .«channel_count»
+        → same (m .len) (drop (m .place) s) (name-of r d .len) (drop (name-of r d .place) u) ≡ true → seek s m u r d ≡ d
     unfolding alike
     seek-finds h e = search-finds (λ e. alike s m u (name-of r e)) (r .«channel_count») d h e
 
     pub seek-goes :
-        d ≤ r .«channel_count» →
-        same (m .len) (drop (m .place) s) (name-of r d .len) (drop (name-of r d .place) u) ≡ false →
-        seek s m u r d ≡ seek s m u r (d + 1)
+        d ≤ r .«channel_count»
+        → same (m .len) (drop (m .place) s) (name-of r d .len) (drop (name-of r d .place) u) ≡ false
+        → seek s m u r d ≡ seek s m u r (d + 1)
     unfolding alike
     seek-goes h e = search-goes (λ e. alike s m u (name-of r e)) (r .«channel_count») d h e
 
@@ -86,13 +86,15 @@ module _ (s : List ℕ) (l : Text) (u : List ℕ) (r : Text) where
     step-in z h = rw (lt-ltb 0 c (omega arith), le-leb c (l .«channel_count») h)
 
 -- an array that is filled whole
-pub written-whole : (f : ℕ → ℕ) (n : ℕ) → n ≡ most-steps → written f n (replicate most-steps 0) ≡ tab-from f 0 most-steps
+pub written-whole : (f : ℕ → ℕ) (n : ℕ) → n ≡ most-steps → written f n (replicate most-steps 0)
+    ≡ tab-from f 0 most-steps
 unfolding written
 written-whole f n e = rw (e, append-nil)
 
 -- the places of a row in the two tables
 module _
-    {from : ℕ} {map : List ℕ} {to n right left : ℕ} (h : Renumbering from map to n right left) (p : ℕ) (l : p < n * left) where
+    {from : ℕ} {map : List ℕ} {to n right left : ℕ} (h : Renumbering from map to n right left) (p : ℕ)
+    (l : p < n * left) where
   pub column : p % left < left
   column = mod-lt p (h .some)
 

@@ -22,7 +22,11 @@ module _ (s : List ℕ) (l : Text) (u : List ℕ) (r : Text) where
   partner-below c =
       when-equal (partner s (name-of l c) u r ≤ r .«channel_count») (partner s (name-of l c) u r) 0
       (λ z. omega arith)
-      (λ z. omega (arith, lowest-found (λ d. alike s (name-of l c) u (name-of r d)) (r .«channel_count») (omega arith) .high))
+      (λ z. omega (
+        arith,
+        lowest-found (λ d. alike s (name-of l c) u (name-of r d)) (r .«channel_count») (omega arith)
+            .high,
+      ))
 
   -- each entry is a step of the right
   pub step-below : (c : ℕ) → right-step s l u r c < r .«channel_count» + 1
@@ -36,12 +40,13 @@ module _ (s : List ℕ) (l : Text) (u : List ℕ) (r : Text) where
   unfolding pairing
   map-at c h = tab-at (right-step s l u r) 0 0 most-steps c h ∙ ap (right-step s l u r) (zero-add c)
 
-  pub map-below : Well-formed l → (c : ℕ) → c < l .«channel_count» + 1 → getD (pairing s l u r .map) c 0 < r .«channel_count» + 1
+  pub map-below : Well-formed l → (c : ℕ) → c < l .«channel_count» + 1 → getD (pairing s l u r .map) c 0
+      < r .«channel_count» + 1
   map-below w c h = rw (map-at c (omega (arith, w .channels))) (step-below c)
 
 -- row t and step c of the renumbered table
 pub renumbered-at :
-    (table map : List ℕ) (right left t c : ℕ) → c < left →
-    renumbered table map right left (t * left + c) ≡ getD table (t * right + getD map c 0) 0
+    (table map : List ℕ) (right left t c : ℕ) → c < left
+    → renumbered table map right left (t * left + c) ≡ getD table (t * right + getD map c 0) 0
 unfolding renumbered
 renumbered-at table map right left t c h = rw (digits-div t h, digits-mod t h)

@@ -48,8 +48,8 @@ spelled-length s n w =
     length-take (n .len) (drop (n .place) s) ∙ omega (arith, length-drop (n .place) s, w .inside)
 
 pub spelled-alike :
-    (s : List ℕ) (m : Name) (u : List ℕ) (n : Name) → Within s m → Within u n → spelling s m ≡ spelling u n →
-    alike s m u n ≡ true
+    (s : List ℕ) (m : Name) (u : List ℕ) (n : Name) → Within s m → Within u n → spelling s m ≡ spelling u n
+    → alike s m u n ≡ true
 unfolding alike scan.same
 spelled-alike s m u n v w e =
     let k : m .len ≡ n .len = sym (spelled-length s m v) ∙ ap length e ∙ spelled-length u n w in

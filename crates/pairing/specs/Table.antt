@@ -5,8 +5,8 @@ use lib.ListN.{getD}
 use Rattle.reader_record.specs.Limits.{state-limit}
 use Rattle.pairing.specs.Channels.{most-steps}
 
--- entry p of the table with `left` steps a row, from a table with `right` steps a row; map has the right's number of each
--- step
+-- entry p of the table with `left` steps a row, from a table with `right` steps a row; map has the right's number of
+-- each step
 unfoldable pub renumbered : List ℕ → List ℕ → ℕ → ℕ → ℕ → ℕ
 renumbered table map right left p = getD table (p / left * right + getD map (p % left) 0) 0
 

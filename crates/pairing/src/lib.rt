@@ -158,7 +158,8 @@ pub fn renumber(
     left_width: usize,
 )
     requires { ⌜ Renumbering (length (now src)) map (length (now dst)) n «right_width» «left_width» ⌝ }
-    ensures { λ _. ⌜ now (dst .exit) ≡ written (renumbered (now (src .entry)) map «right_width» «left_width») (n * «left_width») (now (dst .entry)) ⌝ }
+    ensures { λ _. ⌜ now (dst .exit) ≡ written (renumbered (now (src .entry)) map «right_width» «left_width»)
+        (n * «left_width») (now (dst .entry)) ⌝ }
 {
     let size = n * left_width;
     let mut p: usize = 0;

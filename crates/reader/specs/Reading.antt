@@ -1,7 +1,7 @@
 -- The contract text: "A subset of UPPAAL's published XTA text, in this order". A definition a line of document 01.
-use mathlib.Core.Bool.{Bool, true, false, cond}
+use mathlib.Core.Bool.{false, cond}
 use mathlib.Core.List.{List}
-use Prim.Native.Nat.{ℕ, _+_}
+use Prim.Native.Nat.{ℕ}
 use lib.Dec.{ltb}
 use lib.ListN.{length, replicate}
 use Rattle.reader_tokens.specs.Kinds as kinds
@@ -15,11 +15,12 @@ use Rattle.reader_parts.specs.declared.Status.the-variants as status
 use Rattle.reader_parts.specs.Status.{ahead}
 use Rattle.reader_parts.specs.Names.{declare, use-name}
 use Rattle.reader_parts.specs.Slots.{process-slot, process-limit, first-location, name-slots}
+use Rattle.reader_lists.specs.declared.Item.{Item}
+use Rattle.reader_lists.specs.declared.Item.the-variants.{Channel, Clock, Location, Edge}
 use Rattle.reader_lists.specs.declared.State.{State}
 use Rattle.reader_lists.specs.State.{no-text, next, with-init}
-use Rattle.reader_lists.specs.Lists.{stopped, channels, clocks, locations, edges}
+use Rattle.reader_lists.specs.Lists.{stopped, items}
 use Rattle.reader.specs.Faults.{refusal-of}
-use Rattle.reader.specs.declared.Answer.{Answer}
 use Rattle.reader.specs.declared.Answer.the-variants.{Accepted, Refused}
 use Rattle.reader.specs.declared.Parsed.{Parsed}
 
@@ -27,10 +28,16 @@ use Rattle.reader.specs.declared.Parsed.{Parsed}
 unfoldable pub start : State
 start = record { status = status.At 0; names = replicate name-slots no-name; text = no-text }
 
+-- an optional list: the word that opens it, then its items and `;`
+unfoldable pub list-part : ℕ → Item → List ℕ → State → State
+list-part word k s r =
+    let given = items k s (next s r word) in
+    cond (ahead s (r .status) word) given r
+
 -- "optional `broadcast chan` names `;`"
 unfoldable pub channel-part : List ℕ → State → State
 channel-part s r =
-    let given = channels s (next s (next s r kinds.broadcast) kinds.chan) in
+    let given = items Channel s (next s (next s r kinds.broadcast) kinds.chan) in
     cond (ahead s (r .status) kinds.broadcast) given r
 
 -- "`process` name `( ) {`"
@@ -42,14 +49,12 @@ process-part s r =
     next s (next s (next s b kinds.left-paren) kinds.right-paren) kinds.opens
 
 -- "optional `clock` names `;`"
-unfoldable pub clock-part : List ℕ → State → State
-clock-part s r =
-    let given = clocks s (next s r kinds.clock) in
-    cond (ahead s (r .status) kinds.clock) given r
+abbrev pub clock-part : List ℕ → State → State
+clock-part = list-part kinds.clock Clock
 
 -- "`state` locations `;`"
 unfoldable pub location-part : List ℕ → State → State
-location-part s r = locations s (next s r kinds.state)
+location-part s r = items Location s (next s r kinds.state)
 
 -- "`init` name `;`": the name of a location
 unfoldable pub init-part : List ℕ → State → State
@@ -60,10 +65,8 @@ init-part s r =
     next s b kinds.semicolon
 
 -- "optional `trans` edges `;`"
-unfoldable pub edge-part : List ℕ → State → State
-edge-part s r =
-    let given = edges s (next s r kinds.trans) in
-    cond (ahead s (r .status) kinds.trans) given r
+abbrev pub edge-part : List ℕ → State → State
+edge-part = list-part kinds.trans Edge
 
 -- "then `} system` name `;`": the process's name; after it the text ends
 unfoldable pub end-part : List ℕ → State → State

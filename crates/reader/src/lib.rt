@@ -2,8 +2,10 @@
 ghost use mathlib.Core.Path.{_≡_};
 ghost use mathlib.Core.Bool.{Bool, true, false};
 ghost use Prim.Native.Nat.{ℕ, _+_, _-_, _≤_, _<_};
-ghost use Rattle.reader.specs.Reading.{start, channel-part, process-part, clock-part, location-part, init-part, edge-part, end-part, read-whole, refused, answer, read-text};
+ghost use Rattle.reader.specs.Reading.{start, list-part, channel-part, process-part, location-part, init-part};
+ghost use Rattle.reader.specs.Reading.{end-part, read-whole, refused, answer, read-text};
 ghost use Rattle.reader.specs.Faults.{refusal-of};
+use reader_lists::Item;
 use reader_lists::State;
 use reader_parts::FIRST_LOCATION;
 use reader_parts::Fault;
@@ -44,6 +46,18 @@ fn start() -> State
     }
 }
 
+// An optional list: the word that opens it, then its items and `;`.
+fn list_part(s: &[u8], r: State, word: usize, k: Item) -> State
+    ensures { λ q. ⌜ q ≡ list-part word k (now (s .entry)) r ⌝ }
+{
+    let st = r.status;
+    if reader_parts::ahead(s, st, word) {
+        let a = reader_lists::next(s, r, word);
+        return reader_lists::items(s, a, k);
+    }
+    r
+}
+
 // Optional `broadcast chan` names `;`.
 fn channel_part(s: &[u8], r: State) -> State
     ensures { λ q. ⌜ q ≡ channel-part (now (s .entry)) r ⌝ }
@@ -52,7 +66,7 @@ fn channel_part(s: &[u8], r: State) -> State
     if reader_parts::ahead(s, st, reader_tokens::BROADCAST) {
         let a = reader_lists::next(s, r, reader_tokens::BROADCAST);
         let b = reader_lists::next(s, a, reader_tokens::CHAN);
-        return reader_lists::channels(s, b);
+        return reader_lists::items(s, b, Item::Channel);
     }
     r
 }
@@ -78,24 +92,12 @@ fn process_part(s: &[u8], r: State) -> State
     reader_lists::next(s, e, reader_tokens::OPEN)
 }
 
-// Optional `clock` names `;`.
-fn clock_part(s: &[u8], r: State) -> State
-    ensures { λ q. ⌜ q ≡ clock-part (now (s .entry)) r ⌝ }
-{
-    let st = r.status;
-    if reader_parts::ahead(s, st, reader_tokens::CLOCK) {
-        let a = reader_lists::next(s, r, reader_tokens::CLOCK);
-        return reader_lists::clocks(s, a);
-    }
-    r
-}
-
 // `state` locations `;`.
 fn location_part(s: &[u8], r: State) -> State
     ensures { λ q. ⌜ q ≡ location-part (now (s .entry)) r ⌝ }
 {
     let a = reader_lists::next(s, r, reader_tokens::STATE);
-    reader_lists::locations(s, a)
+    reader_lists::items(s, a, Item::Location)
 }
 
 // `init` name `;`.
@@ -115,18 +117,6 @@ fn init_part(s: &[u8], r: State) -> State
         text: text,
     };
     reader_lists::next(s, b, reader_tokens::SEMICOLON)
-}
-
-// Optional `trans` edges `;`.
-fn edge_part(s: &[u8], r: State) -> State
-    ensures { λ q. ⌜ q ≡ edge-part (now (s .entry)) r ⌝ }
-{
-    let st = r.status;
-    if reader_parts::ahead(s, st, reader_tokens::TRANS) {
-        let a = reader_lists::next(s, r, reader_tokens::TRANS);
-        return reader_lists::edges(s, a);
-    }
-    r
 }
 
 // `} system` name `;` and the end of the text.
@@ -156,10 +146,10 @@ fn read_whole(s: &[u8]) -> State
     let a = start();
     let b = channel_part(s, a);
     let c = process_part(s, b);
-    let d = clock_part(s, c);
+    let d = list_part(s, c, reader_tokens::CLOCK, Item::Clock);
     let e = location_part(s, d);
     let f = init_part(s, e);
-    let g = edge_part(s, f);
+    let g = list_part(s, f, reader_tokens::TRANS, Item::Edge);
     end_part(s, g)
 }
 

@@ -37,8 +37,8 @@ above n h = by (leb n largest-constant) refl
     by false e = leb-false n largest-constant e
 
 module _ (s : List ℕ) (names : List Name) (invariant : Bool) (closing : ℕ) (st : Status) (c : Constraint) where
-  pub turn-full : {x : ComparisonRead} → x ≡ comparison s st names invariant true →
-      constraint-from 0 s names invariant closing st c ≡ record { status = x .status; constraint = c }
+  pub turn-full : {x : ComparisonRead} → x ≡ comparison s st names invariant true
+      → constraint-from 0 s names invariant closing st c ≡ record { status = x .status; constraint = c }
   unfolding constraint-from
   turn-full e = rw (sym e)
 

@@ -77,8 +77,8 @@ comparison s st names invariant over =
       comparison = record { clock = clock .number; sign = sign .sign; bound = bound .value };
     }
 
--- of no comparison, and as long as the code's array (the `no-constraint` of reader_record stands past the end of a list, where
--- an array inside is empty)
+-- of no comparison, and as long as the code's array (the `no-constraint` of reader_record stands past the end of a
+-- list, where an array inside is empty)
 unfoldable pub no-constraint : Constraint
 no-constraint = record { comparisons = replicate comparison-limit no-comparison; count = 0 }
 
@@ -86,7 +86,8 @@ no-constraint = record { comparisons = replicate comparison-limit no-comparison;
 unfoldable pub with-comparison : Constraint → Comparison → Constraint
 with-comparison c x = record { comparisons = set (c .comparisons) (c .count) x; count = c .count + 1 }
 
--- comparisons joined by `&&`, then the closing token; there is room for so many after c, and the first past them is refused
+-- comparisons joined by `&&`, then the closing token; there is room for
+-- so many after c, and the first past them is refused
 unfoldable pub constraint-from : ℕ → List ℕ → List Name → Bool → ℕ → Status → Constraint → ConstraintRead
 constraint-from zero s names invariant closing st c =
     record { status = comparison s st names invariant true .status; constraint = c }

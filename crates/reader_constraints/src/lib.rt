@@ -38,7 +38,7 @@ pub fn constant(s: &[u8], st: Status) -> Amount
     match st {
         Status::Refused(f) => no_amount(f),
         Status::At(p) => {
-            let t = reader_tokens::token_at(s, p);
+            let t = reader_scanner::scan(s, p);
             let a = t.place;
             if t.kind != reader_tokens::NUMERAL {
                 let f = Fault::Misfit(a);
@@ -81,7 +81,7 @@ fn sign_next(s: &[u8], st: Status, invariant: bool) -> SignRead
     match st {
         Status::Refused(f) => no_sign(f),
         Status::At(p) => {
-            let t = reader_tokens::token_at(s, p);
+            let t = reader_scanner::scan(s, p);
             let k = t.kind;
             let yes = Status::At(t.end);
             let f = Fault::Misfit(t.place);

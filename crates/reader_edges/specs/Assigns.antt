@@ -41,8 +41,9 @@ assign-next s st names =
 unfoldable pub no-resets : List Bool
 no-resets = replicate clock-limit false
 
--- items joined by commas, then `;`. The counter only makes the recursion plain: it says how many items are read at most, and
--- `counter-free` of Progress proves that any counter above the bytes left gives the same, so that none is ever cut off
+-- items joined by commas, then `;`. The counter only makes the recursion plain: it says how many items are read at
+-- most, and `counter-free` of Progress proves that any counter above the bytes left gives the same, so that none is
+-- ever cut off
 unfoldable pub assigns-from : ℕ → List ℕ → List Name → Status → List Bool → AssignsRead
 assigns-from zero s names st resets = record { status = st; resets = resets }
 assigns-from (suc room) s names st resets =
@@ -51,8 +52,8 @@ assigns-from (suc room) s names st resets =
     let more = assigns-from room s names (take s (x .status) kinds.comma) all in
     cond (ahead s (x .status) kinds.comma) more (record { status = take s (x .status) kinds.semicolon; resets = all })
 
--- "items joined by commas `;`", with the clocks that are reset already; `items-more` and `items-last` of Progress are its
--- equations, without the counter
+-- "items joined by commas `;`", with the clocks that are reset already; `items-more` and `items-last` of Progress are
+-- its equations, without the counter
 unfoldable pub items : List ℕ → List Name → Status → List Bool → AssignsRead
 items s names st resets = assigns-from (suc (length s)) s names st resets
 

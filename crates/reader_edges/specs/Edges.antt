@@ -1,5 +1,5 @@
--- "An edge is `A -> B {` optional `guard` comparisons `;` then `sync` channel `?` or `!` `;` then optional `assign` clock `= 0`
--- items joined by commas `;` and `}`."
+-- "An edge is `A -> B {` optional `guard` comparisons `;` then `sync` channel `?` or `!` `;` then optional `assign`
+-- clock `= 0` items joined by commas `;` and `}`."
 use mathlib.Core.Bool.{Bool, true, false, cond}
 use mathlib.Core.List.{List}
 use Prim.Native.Nat.{ℕ}

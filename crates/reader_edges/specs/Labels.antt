@@ -1,4 +1,5 @@
--- The label of an edge: "`sync` channel `?` or `!` `;`". "An edge is labelled with an input (`?`) or an output (`!`) channel."
+-- The label of an edge: "`sync` channel `?` or `!` `;`". "An edge is
+-- labelled with an input (`?`) or an output (`!`) channel."
 use mathlib.Core.Bool.{Bool, true, false, cond, not}
 use mathlib.Core.List.{List}
 use Prim.Native.Nat.{ℕ, _+_}
@@ -48,8 +49,8 @@ fits direction.Unused input = true
 fits direction.Input input = input
 fits direction.Output input = not input
 
--- the reader has come to st, past the mark of the channel whose name is at `place`: "channel used with the other mark, at its
--- name"
+-- the reader has come to st, past the mark of the channel whose name is at `place`: "channel used with the other
+-- mark, at its name"
 unfoldable pub judged : Status → Bool → ℕ → Status
 judged (Refused f) right place = Refused f
 judged (At p) right place = cond right (At p) (Refused (OtherMark place))

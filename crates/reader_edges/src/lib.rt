@@ -45,7 +45,7 @@ fn mark_next(s: &[u8], st: Status) -> MarkRead
     match st {
         Status::Refused(f) => no_mark(f),
         Status::At(p) => {
-            let t = reader_tokens::token_at(s, p);
+            let t = reader_scanner::scan(s, p);
             let k = t.kind;
             let yes = Status::At(t.end);
             if k == reader_tokens::INPUT {
@@ -153,7 +153,7 @@ fn zero_next(s: &[u8], st: Status) -> Status
     match st {
         Status::Refused(f) => Status::Refused(f),
         Status::At(p) => {
-            let t = reader_tokens::token_at(s, p);
+            let t = reader_scanner::scan(s, p);
             let a = t.place;
             let f = Fault::Misfit(a);
             if t.kind != reader_tokens::NUMERAL {

@@ -50,7 +50,8 @@ edge source target guard label reset =
       resets = filled clock-limit false (reset ∷ []);
     }
 
--- what the five texts have in common: the direction of `late`, the invariant of Wait, the name Done and the edges differ
+-- what the five texts have in common: the direction of `late`, the
+-- invariant of Wait, the name Done and the edges differ
 abbrev marker : Direction → Constraint → Name → List Edge → Text
 marker late wait done es = record {
   channels =

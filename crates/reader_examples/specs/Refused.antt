@@ -5,7 +5,7 @@ use Prim.Native.String.{String}
 use lib.ListN.{replicate}
 use Rattle.refusals.specs.declared.Refusal.{Refusal}
 use Rattle.refusals.specs.Refusals.{text-too-long, misfit, name-too-long, declared-before, unknown-name, constant-too-large, too-many-items, other-mark}
-use Rattle.reader_tokens.specs.Tokens.{bytes}
+use Rattle.reader_tokens.specs.Scan.{bytes}
 use Rattle.reader_lists.specs.State.{no-text}
 use Rattle.reader.specs.declared.Answer.the-variants.{Accepted, Refused}
 use Rattle.reader.specs.Reading.{read-text}
@@ -29,7 +29,8 @@ pub record Codes : Type 0 where
   -- 2, "first token that does not fit"
   pub first-misfit : Refuses "process P(){init A;}system P;" (misfit 12)
   -- 3, "name too long"
-  pub long-name : Refuses "broadcast chan nnnnnnnnnnnnnnnnnnnnnnnnnnnnnnnn;process P(){state A;init A;}system P;" (name-too-long 15)
+  pub long-name : Refuses "broadcast chan nnnnnnnnnnnnnnnnnnnnnnnnnnnnnnnn;process P(){state A;init A;}system P;"
+      (name-too-long 15)
   -- 4, "name declared before"
   pub twice : Refuses "broadcast chan a,b,a;process P(){state A;init A;}system P;" (declared-before 19)
   -- 5, "name undeclared"
@@ -43,11 +44,15 @@ pub record Codes : Type 0 where
   -- 7, "first item over a count limit, at its first name"
   pub clock-four : Refuses "process P(){clock x,y,z,w;state A;init A;}system P;" (too-many-items 24)
   -- 7
-  pub channel-seventeen : Refuses "broadcast chan c0,c1,c2,c3,c4,c5,c6,c7,c8,c9,c10,c11,c12,c13,c14,c15,d;process P(){state A;init A;}system P;" (too-many-items 69)
+  pub channel-seventeen : Refuses
+      "broadcast chan c0,c1,c2,c3,c4,c5,c6,c7,c8,c9,c10,c11,c12,c13,c14,c15,d;process P(){state A;init A;}system P;"
+      (too-many-items 69)
   -- 7
-  pub location-thirty-three : Refuses "process P(){state l0,l1,l2,l3,l4,l5,l6,l7,l8,l9,l10,l11,l12,l13,l14,l15,l16,l17,l18,l19,l20,l21,l22,l23,l24,l25,l26,l27,l28,l29,l30,l31,m;init l0;}system P;" (too-many-items 136)
+  pub location-thirty-three : Refuses
+      "process P(){state l0,l1,l2,l3,l4,l5,l6,l7,l8,l9,l10,l11,l12,l13,l14,l15,l16,l17,l18,l19,l20,l21,l22,l23,l24,l25,l26,l27,l28,l29,l30,l31,m;init l0;}system P;" (too-many-items 136)
   -- 7
-  pub comparison-five : Refuses "process P(){clock x;state A{x<=1&&x<=1&&x<=1&&x<=1&&x<=1},B;init B;}system P;" (too-many-items 52)
+  pub comparison-five : Refuses "process P(){clock x;state A{x<=1&&x<=1&&x<=1&&x<=1&&x<=1},B;init B;}system P;"
+      (too-many-items 52)
   -- 8, "channel used with the other mark, at its name"
   pub mark : Refuses "broadcast chan a,b;process P(){clock x;state A,B;init A;trans A->B{sync a!;},B->A{sync a?;};}system P;" (other-mark 87)
 
@@ -83,7 +88,8 @@ pub record Ties : Type 0 where
   -- a lone `-` as the last byte is no end
   pub lone-mark : Refuses "process P(){state A;init A;}system P;-" (misfit 37)
   -- `- >` is no `->`
-  pub parted : Refuses "broadcast chan a,b;process P(){clock x;state A,B;init A;trans A- >B{sync a!;};}system P;" (misfit 63)
+  pub parted : Refuses "broadcast chan a,b;process P(){clock x;state A,B;init A;trans A- >B{sync a!;};}system P;"
+      (misfit 63)
   -- `3x` is a numeral and a name
   pub numeral-name : Refuses "process P(){clock x;state A{x<=3x},B;init B;}system P;" (misfit 32)
   -- `===` is `==` and `=`
@@ -100,7 +106,8 @@ pub record Ties : Type 0 where
   pub zeros : Accepts "process P(){clock x;state A{x<=0001000},B;init B;}system P;"
   pub zeros-over : Refuses "process P(){clock x;state A{x<=0001001},B;init B;}system P;" (constant-too-large 31)
   -- no wrap-around
-  pub nines : Refuses "process P(){clock x;state A{x<=9999999999999999999999999999999999999999},B;init B;}system P;" (constant-too-large 31)
+  pub nines : Refuses "process P(){clock x;state A{x<=9999999999999999999999999999999999999999},B;init B;}system P;"
+      (constant-too-large 31)
   -- `00` is 0
   pub double-zero : Accepts "broadcast chan a,b;process P(){clock x;state A,B;init A;trans A->B{sync a!;assign x=00;};}system P;"
   -- any value but 0 gives 2, also over 1,000
@@ -108,7 +115,8 @@ pub record Ties : Type 0 where
   -- a repeated clock is one reset
   pub repeated : Accepts "broadcast chan a,b;process P(){clock x;state A,B;init A;trans A->B{sync a!;assign x=0,x=0;};}system P;"
   -- 3 before 5
-  pub long-undeclared : Refuses "process P(){state A;init nnnnnnnnnnnnnnnnnnnnnnnnnnnnnnnn;}system P;" (name-too-long 25)
+  pub long-undeclared : Refuses "process P(){state A;init nnnnnnnnnnnnnnnnnnnnnnnnnnnnnnnn;}system P;"
+      (name-too-long 25)
   -- where no name fits it is 2
   pub long-misfit : Refuses "process P nnnnnnnnnnnnnnnnnnnnnnnnnnnnnnnn(){state A;init A;}system P;" (misfit 10)
   -- a clock named as the process
@@ -116,11 +124,15 @@ pub record Ties : Type 0 where
   -- clock 4 declared before is 4
   pub four-before-seven : Refuses "process P(){clock x,y,z,P;state A;init A;}system P;" (declared-before 24)
   -- comparison 5 with a constant over 1,000 is 7, at its lower place
-  pub seven-before-six : Refuses "process P(){clock x;state A{x<=1&&x<=1&&x<=1&&x<=1&&x<=5000},B;init B;}system P;" (too-many-items 52)
+  pub seven-before-six : Refuses "process P(){clock x;state A{x<=1&&x<=1&&x<=1&&x<=1&&x<=5000},B;init B;}system P;"
+      (too-many-items 52)
   -- comparison 5 of a 32-byte name is 3
-  pub three-before-seven : Refuses "process P(){clock x;state A{x<=1&&x<=1&&x<=1&&x<=1&&nnnnnnnnnnnnnnnnnnnnnnnnnnnnnnnn<=1},B;init B;}system P;" (name-too-long 52)
+  pub three-before-seven : Refuses
+      "process P(){clock x;state A{x<=1&&x<=1&&x<=1&&x<=1&&nnnnnnnnnnnnnnnnnnnnnnnnnnnnnnnn<=1},B;init B;}system P;"
+      (name-too-long 52)
   -- comparison 5 of an undeclared clock is 5
-  pub five-before-seven : Refuses "process P(){clock x;state A{x<=1&&x<=1&&x<=1&&x<=1&&y<=1},B;init B;}system P;" (unknown-name 52)
+  pub five-before-seven : Refuses "process P(){clock x;state A{x<=1&&x<=1&&x<=1&&x<=1&&y<=1},B;init B;}system P;"
+      (unknown-name 52)
   -- the first name of an item over a limit is enough
   pub cut-item : Refuses "process P(){clock x,y,z,w" (too-many-items 24)
   -- an invariant names a later location

@@ -3,7 +3,7 @@ use mathlib.Core.List.{List, [], _∷_, _++_}
 use Prim.Native.Nat.{ℕ}
 use Prim.Native.Char.{code}
 use Prim.Native.String.{String}
-use Rattle.reader_tokens.specs.Tokens.{bytes}
+use Rattle.reader_tokens.specs.Scan.{bytes}
 
 -- lines, each with its line feed
 abbrev pub lines : List String → List ℕ

@@ -39,8 +39,8 @@ when-equal P i j f g = by (eqb i j) refl
 
 -- what holds of the item stored at k, and of the others, holds of each
 pub stored :
-    {A : Type 0} (P : A → Type 0) (l : List A) (k i : ℕ) (a d : A) → k < length l → (i ≡ k → P a) →
-    ((i ≡ k → ⊥) → P (getD l i d)) → P (getD (set l k a) i d)
+    {A : Type 0} (P : A → Type 0) (l : List A) (k i : ℕ) (a d : A) → k < length l → (i ≡ k → P a)
+    → ((i ≡ k → ⊥) → P (getD l i d)) → P (getD (set l k a) i d)
 stored P l k i a d h f g =
     when-equal (P (getD (set l k a) i d)) i k
     (λ e. rw (e, getD-set-same l k a d h) (f e))

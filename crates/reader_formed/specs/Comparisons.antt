@@ -70,8 +70,8 @@ of-sign only t =
     P r = Going (r .status) → only ≡ true → r .sign ≡ AtMost
 
 sign-read :
-    (s : List ℕ) (st : Status) (only : Bool) → Going (sign-next s st only .status) →
-    Signed st only (sign-next s st only)
+    (s : List ℕ) (st : Status) (only : Bool) → Going (sign-next s st only .status)
+    → Signed st only (sign-next s st only)
 unfolding sign-next
 sign-read s (At p) only g = record { before = tt; sign = of-sign only (token-at s p) g }
 sign-read s (Refused f) only g = absurd g
@@ -89,8 +89,8 @@ module _ (s : List ℕ) (names : List Name) (only : Bool) where
         (clocks : ℕ) → Known s names first-clock clock-limit clocks → Formed-comparison clocks only (x .comparison)
 
   compared :
-      (st : Status) (over : Bool) → Going (comparison s st names only over .status) →
-      Compared st (comparison s st names only over)
+      (st : Status) (over : Bool) → Going (comparison s st names only over .status)
+      → Compared st (comparison s st names only over)
   unfolding comparison
   compared st over g =
       let c = constant-read s _ g in
@@ -121,8 +121,8 @@ unfolding no-constraint
 none-yet clocks only = record { size = refl; limit = omega arith; each = λ i h. absurd (omega arith) }
 
 with-one :
-    (clocks : ℕ) (only : Bool) (room : ℕ) (c : Constraint) (x : Comparison) → Formed-comparison clocks only x →
-    So-far clocks only (suc room) c → So-far clocks only room (with-comparison c x)
+    (clocks : ℕ) (only : Bool) (room : ℕ) (c : Constraint) (x : Comparison) → Formed-comparison clocks only x
+    → So-far clocks only (suc room) c → So-far clocks only room (with-comparison c x)
 unfolding with-comparison
 with-one clocks only room c x f h = record {
   size = length-set (c .comparisons) (c .count) x ∙ h .size;
@@ -134,8 +134,8 @@ with-one clocks only room c x f h = record {
 }
 
 whole :
-    (clocks : ℕ) (only : Bool) (room : ℕ) (c : Constraint) → So-far clocks only room c →
-    Formed-comparisons clocks only c
+    (clocks : ℕ) (only : Bool) (room : ℕ) (c : Constraint) → So-far clocks only room c
+    → Formed-comparisons clocks only c
 whole clocks only room c h = record { few = omega (arith, h .limit); each = h .each }
 
 -- a constraint that is read: the reader went on before it, and it is formed where what came before is
@@ -143,13 +143,13 @@ module _ (s : List ℕ) (names : List Name) (only : Bool) where
   record Constrained (room : ℕ) (st : Status) (c : Constraint) (r : ConstraintRead) : Type 0 where
     before : Going st
     formed :
-        (clocks : ℕ) → Known s names first-clock clock-limit clocks → So-far clocks only room c →
-        Formed-comparisons clocks only (r .constraint)
+        (clocks : ℕ) → Known s names first-clock clock-limit clocks → So-far clocks only room c
+        → Formed-comparisons clocks only (r .constraint)
 
   from-read :
-      (closing room : ℕ) (st : Status) (c : Constraint) →
-      Going (constraint-from room s names only closing st c .status) →
-      Constrained room st c (constraint-from room s names only closing st c)
+      (closing room : ℕ) (st : Status) (c : Constraint)
+      → Going (constraint-from room s names only closing st c .status)
+      → Constrained room st c (constraint-from room s names only closing st c)
   unfolding constraint-from
   from-read closing zero st c =
       λ g. record { before = compared s names only st true g .before; formed = λ n k h. whole n only zero c h }
@@ -165,8 +165,8 @@ module _ (s : List ℕ) (names : List Name) (only : Bool) where
       x = comparison s st names only false
 
       last :
-          Compared s names only st x → {to : Status} →
-          Constrained (suc room) st c (record { status = to; constraint = with-comparison c (x .comparison) })
+          Compared s names only st x → {to : Status}
+          → Constrained (suc room) st c (record { status = to; constraint = with-comparison c (x .comparison) })
       last m = record {
         before = m .before;
         formed = λ n k h. whole n only room (with-comparison c (x .comparison))
@@ -174,9 +174,9 @@ module _ (s : List ℕ) (names : List Name) (only : Bool) where
       }
 
       more :
-          {r : ConstraintRead} →
-          Constrained room (take s (x .status) kinds.both) (with-comparison c (x .comparison)) r →
-          Constrained (suc room) st c r
+          {r : ConstraintRead}
+          → Constrained room (take s (x .status) kinds.both) (with-comparison c (x .comparison)) r
+          → Constrained (suc room) st c r
       more q =
           let m = compared s names only st false (take-going s (x .status) kinds.both (q .before)) in
           record {
@@ -190,8 +190,8 @@ module _ (s : List ℕ) (names : List Name) (only : Bool) where
         (clocks : ℕ) → Known s names first-clock clock-limit clocks → Formed-comparisons clocks only (r .constraint)
 
   given :
-      (closing : ℕ) (st : Status) → Going (constraint s st names only closing .status) →
-      Constraint-read st (constraint s st names only closing)
+      (closing : ℕ) (st : Status) → Going (constraint s st names only closing .status)
+      → Constraint-read st (constraint s st names only closing)
   unfolding constraint
   given closing st g =
       let q = from-read closing comparison-limit st no-constraint g in
@@ -204,8 +204,8 @@ module _ (s : List ℕ) (names : List Name) (only : Bool) where
   after-token st k q = record { before = take-going s st k (q .before); formed = q .formed }
 
 pub guard-read :
-    (s : List ℕ) (st : Status) (names : List Name) → Going (guard s st names .status) →
-    Constraint-read s names false st (guard s st names)
+    (s : List ℕ) (st : Status) (names : List Name) → Going (guard s st names .status)
+    → Constraint-read s names false st (guard s st names)
 unfolding guard
 guard-read s st names =
     either (λ (r : ConstraintRead). Going (r .status) → Constraint-read s names false st r) (ahead s st kinds.guard)
@@ -213,8 +213,8 @@ guard-read s st names =
     (λ g. absent s names false st g)
 
 pub invariant-read :
-    (s : List ℕ) (st : Status) (names : List Name) → Going (invariant s st names .status) →
-    Constraint-read s names true st (invariant s st names)
+    (s : List ℕ) (st : Status) (names : List Name) → Going (invariant s st names .status)
+    → Constraint-read s names true st (invariant s st names)
 unfolding invariant
 invariant-read s st names =
     either (λ (r : ConstraintRead). Going (r .status) → Constraint-read s names true st r) (ahead s st kinds.opens)

@@ -50,12 +50,13 @@ module _ (s : List ℕ) (names : List Name) (w : Name) where
   slot-passed i h = not-true _ (run-passes (differs s w) no-name names i (omega arith))
 
 -- a name that is declared at number `number` of a kind
-pub record Declared (s : List ℕ) (st : Status) (names : List Name) (first count limit : ℕ) (d : Declaration) : Type 0 where
-  pub before : Going st
-  pub name : Within s (d .name)
-  pub room : count < limit
-  pub other : (i : ℕ) → i < name-slots → Unlike s (slot names i) (d .name)
-  pub stored : d .names ≡ set names (first + count) (d .name)
+pub record Declared (s : List ℕ) (st : Status) (names : List Name) (first count limit : ℕ) (d : Declaration) : Type 0
+  where
+    pub before : Going st
+    pub name : Within s (d .name)
+    pub room : count < limit
+    pub other : (i : ℕ) → i < name-slots → Unlike s (slot names i) (d .name)
+    pub stored : d .names ≡ set names (first + count) (d .name)
 
 -- a name that is used has the number of a slot with a name
 pub record Used (s : List ℕ) (st : Status) (names : List Name) (first limit : ℕ) (u : Use) : Type 0 where
@@ -65,9 +66,9 @@ pub record Used (s : List ℕ) (st : Status) (names : List Name) (first limit : 
 
 module _ (s : List ℕ) (names : List Name) (first count limit : ℕ) where
   of-declared :
-      (n : Name) (st : Status) → (Going st → Within s n) →
-      Going (declare-name s names first count limit n st .status) → (o : Status) → (Going st → Going o) →
-      Declared s o names first count limit (declare-name s names first count limit n st)
+      (n : Name) (st : Status) → (Going st → Within s n)
+      → Going (declare-name s names first count limit n st .status) → (o : Status) → (Going st → Going o)
+      → Declared s o names first count limit (declare-name s names first count limit n st)
   unfolding declare-name
   of-declared n (Refused f) w g o h = absurd g
   of-declared n (At e) w g o h = by g
@@ -88,8 +89,8 @@ module _ (s : List ℕ) (names : List Name) (first count limit : ℕ) where
           }))
 
   pub declared :
-      (st : Status) → Going (declare s st names first count limit .status) →
-      Declared s st names first count limit (declare s st names first count limit)
+      (st : Status) → Going (declare s st names first count limit .status)
+      → Declared s st names first count limit (declare s st names first count limit)
   unfolding declare
   declared st g =
       of-declared (name-next s st .name) (name-next s st .status)
@@ -97,8 +98,8 @@ module _ (s : List ℕ) (names : List Name) (first count limit : ℕ) where
 
 module _ (s : List ℕ) (names : List Name) (first limit : ℕ) (room : first + limit ≤ name-slots) (over : Bool) where
   of-used :
-      (n : Name) (st : Status) → (Going st → Within s n) → Going (use-of s names first limit over n st .status) →
-      (o : Status) → (Going st → Going o) → Used s o names first limit (use-of s names first limit over n st)
+      (n : Name) (st : Status) → (Going st → Within s n) → Going (use-of s names first limit over n st .status)
+      → (o : Status) → (Going st → Going o) → Used s o names first limit (use-of s names first limit over n st)
   unfolding use-of
   of-used n (Refused f) w g o h = absurd g
   of-used n (At e) w g o h = by g
@@ -113,15 +114,15 @@ module _ (s : List ℕ) (names : List Name) (first limit : ℕ) (room : first + 
           (and-left (leb first (slot-of s names n)) (ltb (slot-of s names n) (first + limit)) b)
 
       high :
-          leb first (slot-of s names n) && ltb (slot-of s names n) (first + limit) ≡ true →
-          slot-of s names n < first + limit
+          leb first (slot-of s names n) && ltb (slot-of s names n) (first + limit) ≡ true
+          → slot-of s names n < first + limit
       high b =
           ltb-true (slot-of s names n) (first + limit)
           (and-right (leb first (slot-of s names n)) (ltb (slot-of s names n) (first + limit)) b)
 
       named :
-          first ≤ slot-of s names n → slot-of s names n < first + limit →
-          slot names (slot-of s names n) .len ≡ n .len → 0 < slot names (first + (slot-of s names n - first)) .len
+          first ≤ slot-of s names n → slot-of s names n < first + limit
+          → slot names (slot-of s names n) .len ≡ n .len → 0 < slot names (first + (slot-of s names n - first)) .len
       named l k q =
           let i : first + (slot-of s names n - first) ≡ slot-of s names n = omega arith in
           rw (i, q) (w tt .some)
@@ -138,8 +139,8 @@ module _ (s : List ℕ) (names : List Name) (first limit : ℕ) (room : first + 
           (λ _ k. absurd k)
 
   pub used :
-      (st : Status) → Going (use-name s st names first limit over .status) →
-      Used s st names first limit (use-name s st names first limit over)
+      (st : Status) → Going (use-name s st names first limit over .status)
+      → Used s st names first limit (use-name s st names first limit over)
   unfolding use-name
   used st g =
       of-used (name-next s st .name) (name-next s st .status)

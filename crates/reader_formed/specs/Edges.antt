@@ -63,8 +63,8 @@ label-agrees false k = tt
 
 -- a label that agrees with the direction so far agrees with the mark that fits it
 pub still-agrees :
-    (l : Label) (d : Direction) (input : Bool) → fits d input ≡ true → T (agrees l d) →
-    T (agrees l (direction-of input))
+    (l : Label) (d : Direction) (input : Bool) → fits d input ≡ true → T (agrees l d)
+    → T (agrees l (direction-of input))
 unfolding fits agrees direction-of
 still-agrees (label.Input c) direction.Unused input f h = absurd h
 still-agrees (label.Input c) direction.Input true f h = tt
@@ -87,8 +87,8 @@ record Labelled (s : List ℕ) (st : Status) (names : List Name) (channels : Lis
   known : (count : ℕ) → Known s names first-channel channel-limit count → r .channel < count
 
 labelled :
-    (s : List ℕ) (st : Status) (names : List Name) (channels : List Channel) →
-    Going (label-next s st names channels .status) → Labelled s st names channels (label-next s st names channels)
+    (s : List ℕ) (st : Status) (names : List Name) (channels : List Channel)
+    → Going (label-next s st names channels .status) → Labelled s st names channels (label-next s st names channels)
 unfolding label-next
 labelled s st names channels g =
     let j = take-going s _ kinds.semicolon g in
@@ -109,11 +109,12 @@ zero-going s (Refused f) g = g
 assign-going : (s : List ℕ) (st : Status) (names : List Name) → Going (assign-next s st names .status) → Going st
 unfolding assign-next
 assign-going s st names g =
-    used s names first-clock clock-limit (omega arith) false st (take-going s _ kinds.becomes (zero-going s _ g)) .before
+    used s names first-clock clock-limit (omega arith) false st (take-going s _ kinds.becomes (zero-going s _ g))
+    .before
 
 items-going :
-    (s : List ℕ) (names : List Name) (room : ℕ) (st : Status) (resets : List Bool) →
-    Going (assigns-from room s names st resets .status) → Going st
+    (s : List ℕ) (names : List Name) (room : ℕ) (st : Status) (resets : List Bool)
+    → Going (assigns-from room s names st resets .status) → Going st
 unfolding assigns-from
 items-going s names zero st resets = λ g. g
 items-going s names (suc room) st resets =
@@ -129,20 +130,21 @@ assigns-going s st names =
     (λ g. g)
 
 -- an edge that is read
-pub record Edge-read (s : List ℕ) (st : Status) (names : List Name) (channels : List Channel) (r : EdgeRead) : Type 0 where
-  pub before : Going st
-  pub right : fits (direction-at channels (r .channel)) (r .input) ≡ true
-  pub label : r .edge .label ≡ label-of (r .input) (r .channel)
-  pub known : (count : ℕ) → Known s names first-channel channel-limit count → r .channel < count
-  pub guard :
-      (count : ℕ) → Known s names first-clock clock-limit count → Formed-comparisons count false (r .edge .guard)
-  pub source : (count : ℕ) → Known s names first-location location-limit count → r .edge .source < count
-  pub target : (count : ℕ) → Known s names first-location location-limit count → r .edge .target < count
+pub record Edge-read (s : List ℕ) (st : Status) (names : List Name) (channels : List Channel) (r : EdgeRead) : Type 0
+  where
+    pub before : Going st
+    pub right : fits (direction-at channels (r .channel)) (r .input) ≡ true
+    pub label : r .edge .label ≡ label-of (r .input) (r .channel)
+    pub known : (count : ℕ) → Known s names first-channel channel-limit count → r .channel < count
+    pub guard :
+        (count : ℕ) → Known s names first-clock clock-limit count → Formed-comparisons count false (r .edge .guard)
+    pub source : (count : ℕ) → Known s names first-location location-limit count → r .edge .source < count
+    pub target : (count : ℕ) → Known s names first-location location-limit count → r .edge .target < count
 
 pub edge-read :
-    (s : List ℕ) (st : Status) (names : List Name) (channels : List Channel) (over : Bool) →
-    Going (edge-next s st names channels over .status) →
-    Edge-read s st names channels (edge-next s st names channels over)
+    (s : List ℕ) (st : Status) (names : List Name) (channels : List Channel) (over : Bool)
+    → Going (edge-next s st names channels over .status)
+    → Edge-read s st names channels (edge-next s st names channels over)
 unfolding edge-next
 edge-read s st names channels over g =
     let l = labelled s _ names channels (assigns-going s _ names (take-going s _ kinds.closes g)) in

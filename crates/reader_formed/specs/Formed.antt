@@ -17,12 +17,14 @@ use Rattle.reader_parts.specs.declared.Status.{Status}
 use Rattle.reader_parts.specs.declared.Status.the-variants as status
 use Rattle.reader_parts.specs.Status.{ahead}
 use Rattle.reader_parts.specs.Names.{declare, use-name}
+use Rattle.reader_lists.specs.declared.Item.{Item}
+use Rattle.reader_lists.specs.declared.Item.the-variants.{Channel, Location}
 use Rattle.reader_lists.specs.declared.State.{State}
 use Rattle.reader_lists.specs.State.{with-init}
 use Rattle.reader.specs.declared.Answer.{Answer}
 use Rattle.reader.specs.declared.Answer.the-variants.{Accepted, Refused}
 use Rattle.reader.specs.declared.Parsed.{Parsed}
-use Rattle.reader.specs.Reading.{start, channel-part, process-part, clock-part, location-part, init-part, edge-part, end-part, read-whole, refused, answer, read-text}
+use Rattle.reader.specs.Reading.{start, channel-part, list-part, process-part, location-part, init-part, end-part, read-whole, refused, answer, read-text}
 use Rattle.reader_formed.specs.Promise.{Names-within, Names-differ, Unlike}
 use Rattle.reader_formed.specs.Cases.{split, either}
 use Rattle.reader_formed.specs.Going.{Going}
@@ -30,7 +32,7 @@ use Rattle.reader_formed.specs.Declared.{declared, used}
 use Rattle.reader_formed.specs.Slots.{Kind, Differ, used-below}
 use Rattle.reader_formed.specs.Comparisons.{Formed-comparisons}
 use Rattle.reader_formed.specs.State.{So-far, process-more, init-chosen}
-use Rattle.reader_formed.specs.Lists.{Good, Keeps, then, same-state, next-keeps, stopped-keeps, fresh, locations-known, channel-list, clock-list, location-list, edge-list}
+use Rattle.reader_formed.specs.Lists.{Good, Keeps, then, same-state, next-keeps, stopped-keeps, fresh, locations-known, list-keeps}
 use Rattle.reader_formed.specs.Start.{start-good}
 
 -- the state after the name of the process, and after that of the start
@@ -45,11 +47,18 @@ after-start s r =
     record { status = u .status; names = r .names; text = with-init (r .text) (u .number) }
 
 module _ (s : List ℕ) where
+  list-kept : {a : ℕ} (word : ℕ) (k : Item) (r : State) → Keeps a a s r (list-part word k s r)
+  unfolding list-part
+  list-kept {a} word k r =
+      either (λ (q : State). Keeps a a s r q) (ahead s (r .status) word)
+      (then s (next-keeps s r word) (list-keeps s k _))
+      (same-state s)
+
   channels-kept : (r : State) → Keeps 0 0 s r (channel-part s r)
   unfolding channel-part
   channels-kept r =
       either (λ (q : State). Keeps 0 0 s r q) (ahead s (r .status) kinds.broadcast)
-      (then s (next-keeps s r kinds.broadcast) (then s (next-keeps s _ kinds.chan) (channel-list s _)))
+      (then s (next-keeps s r kinds.broadcast) (then s (next-keeps s _ kinds.chan) (list-keeps s Channel _)))
       (same-state s)
 
   named-kept : (r : State) → Keeps 0 0 s r (after-process s r)
@@ -63,18 +72,12 @@ module _ (s : List ℕ) where
   unfolding process-part
   process-kept r =
       then s (next-keeps s r kinds.process) (then s (named-kept _)
-      (then s (next-keeps s _ kinds.left-paren) (then s (next-keeps s _ kinds.right-paren) (next-keeps s _ kinds.opens))))
-
-  clocks-kept : (r : State) → Keeps 0 0 s r (clock-part s r)
-  unfolding clock-part
-  clocks-kept r =
-      either (λ (q : State). Keeps 0 0 s r q) (ahead s (r .status) kinds.clock)
-      (then s (next-keeps s r kinds.clock) (clock-list s _))
-      (same-state s)
+      (then s (next-keeps s _ kinds.left-paren) (then s (next-keeps s _ kinds.right-paren)
+      (next-keeps s _ kinds.opens))))
 
   locations-kept : (r : State) → Keeps 0 0 s r (location-part s r)
   unfolding location-part
-  locations-kept r = then s (next-keeps s r kinds.state) (location-list s _)
+  locations-kept r = then s (next-keeps s r kinds.state) (list-keeps s Location _)
 
   start-kept : (r : State) → Keeps 0 1 s r (after-start s r)
   start-kept r = record {
@@ -87,13 +90,6 @@ module _ (s : List ℕ) where
   unfolding init-part
   init-kept r = then s (next-keeps s r kinds.init) (then s (start-kept _) (next-keeps s _ kinds.semicolon))
 
-  edges-kept : (r : State) → Keeps 1 1 s r (edge-part s r)
-  unfolding edge-part
-  edges-kept r =
-      either (λ (q : State). Keeps 1 1 s r q) (ahead s (r .status) kinds.trans)
-      (then s (next-keeps s r kinds.trans) (edge-list s _))
-      (same-state s)
-
   end-kept : (r : State) → Keeps 1 1 s r (end-part s r)
   unfolding end-part
   end-kept r =
@@ -104,8 +100,8 @@ module _ (s : List ℕ) where
   whole-kept : Keeps 0 1 s start (read-whole s)
   unfolding read-whole
   whole-kept =
-      then s (channels-kept _) (then s (process-kept _) (then s (clocks-kept _) (then s (locations-kept _)
-      (then s (init-kept _) (then s (edges-kept _) (end-kept _))))))
+      then s (channels-kept _) (then s (process-kept _) (then s (list-kept _ _ _) (then s (locations-kept _)
+      (then s (init-kept _) (then s (list-kept _ _ _) (end-kept _))))))
 
   whole-good : Going (read-whole s .status) → Good 1 s (read-whole s)
   whole-good g = whole-kept .good g (start-good s)

@@ -33,8 +33,8 @@ pub record Read (s : List ℕ) (st : Status) (r : NameRead) : Type 0 where
   pub name : Within s (r .name)
 
 of-within :
-    (s : List ℕ) (t : Token) → (t .kind ≡ kinds.name → Spans s t) → Going (name-of t .status) →
-    Within s (name-of t .name)
+    (s : List ℕ) (t : Token) → (t .kind ≡ kinds.name → Spans s t) → Going (name-of t .status)
+    → Within s (name-of t .name)
 unfolding name-of
 of-within s t h =
     split P (eqb (t .kind) kinds.name)

@@ -38,14 +38,14 @@ Unlike s m n = same (m .len) (drop (m .place) s) (n .len) (drop (n .place) s) �
 -- "All names in one file differ": those of one kind, and those of two
 pub record Names-differ (s : List ℕ) (t : Text) : Type 0 where
   pub channels :
-      (c d : ℕ) → c < t .«channel_count» → d < t .«channel_count» → (c ≡ d → ⊥) →
-      Unlike s (channel-name t c) (channel-name t d)
+      (c d : ℕ) → c < t .«channel_count» → d < t .«channel_count» → (c ≡ d → ⊥)
+      → Unlike s (channel-name t c) (channel-name t d)
   pub clocks :
-      (c d : ℕ) → c < t .«clock_count» → d < t .«clock_count» → (c ≡ d → ⊥) →
-      Unlike s (clock-name t c) (clock-name t d)
+      (c d : ℕ) → c < t .«clock_count» → d < t .«clock_count» → (c ≡ d → ⊥)
+      → Unlike s (clock-name t c) (clock-name t d)
   pub locations :
-      (l m : ℕ) → l < t .«location_count» → m < t .«location_count» → (l ≡ m → ⊥) →
-      Unlike s (location-name t l) (location-name t m)
+      (l m : ℕ) → l < t .«location_count» → m < t .«location_count» → (l ≡ m → ⊥)
+      → Unlike s (location-name t l) (location-name t m)
   pub channel-clock :
       (c d : ℕ) → c < t .«channel_count» → d < t .«clock_count» → Unlike s (channel-name t c) (clock-name t d)
   pub channel-location :

@@ -1,4 +1,5 @@
--- The slots of the names while a text is read: those of each kind are filled exactly below its count, and all names differ.
+-- The slots of the names while a text is read: those of each kind are
+-- filled exactly below its count, and all names differ.
 use mathlib.Core.Path.{_≡_, refl, sym, _∙_}
 use mathlib.Core.Bool.{Bool, true, false}
 use mathlib.Core.List.{List, [], _∷_}
@@ -26,8 +27,8 @@ pub record Kind (s : List ℕ) (names : List Name) (first limit count : ℕ) (na
 
 -- a slot with a name is below the count
 pub below-count :
-    (s : List ℕ) (names : List Name) (first limit count : ℕ) (named : ℕ → Name) →
-    Kind s names first limit count named → (i : ℕ) → i < limit → 0 < slot names (first + i) .len → i < count
+    (s : List ℕ) (names : List Name) (first limit count : ℕ) (named : ℕ → Name)
+    → Kind s names first limit count named → (i : ℕ) → i < limit → 0 < slot names (first + i) .len → i < count
 below-count s names first limit count named k i h l = by (leb count i) refl
   where
     by : (b : Bool) → leb count i ≡ b → i < count
@@ -42,17 +43,17 @@ pub record Known (s : List ℕ) (names : List Name) (first limit count : ℕ) : 
 
 -- a name that is used is one of those declared
 pub used-below :
-    (s : List ℕ) (st : Status) (names : List Name) (first limit count : ℕ) (u : Use) → Used s st names first limit u →
-    Known s names first limit count → u .number < count
+    (s : List ℕ) (st : Status) (names : List Name) (first limit count : ℕ) (u : Use) → Used s st names first limit u
+    → Known s names first limit count → u .number < count
 used-below s st names first limit count u h k =
     below-count s names first limit count (k .named) (k .kind) (u .number) (h .number) (h .filled (k .size))
 
 -- one name more of this kind, at its end
 module _ (s : List ℕ) (names : List Name) {first limit count : ℕ} {named : ℕ → Name} where
   pub one-more :
-      (after : ℕ → Name) (n : Name) → first + count < length names → count < limit → Within s n → after count ≡ n →
-      ((i : ℕ) → i < count → after i ≡ named i) → Kind s names first limit count named →
-      Kind s (set names (first + count) n) first limit (count + 1) after
+      (after : ℕ → Name) (n : Name) → first + count < length names → count < limit → Within s n → after count ≡ n
+      → ((i : ℕ) → i < count → after i ≡ named i) → Kind s names first limit count named
+      → Kind s (set names (first + count) n) first limit (count + 1) after
   one-more after n size room w new old k = record {
     few = omega arith;
     filled = λ i h. stored (λ (m : Name). m ≡ after i) names (first + count) (first + i) n no-name size
@@ -68,8 +69,8 @@ module _ (s : List ℕ) (names : List Name) {first limit count : ℕ} {named : �
 
   -- a name of another kind, in slot j
   pub elsewhere :
-      (j : ℕ) (n : Name) → j < length names → ((i : ℕ) → i < limit → first + i ≡ j → ⊥) →
-      Kind s names first limit count named → Kind s (set names j n) first limit count named
+      (j : ℕ) (n : Name) → j < length names → ((i : ℕ) → i < limit → first + i ≡ j → ⊥)
+      → Kind s names first limit count named → Kind s (set names j n) first limit count named
   elsewhere j n size off k = record {
     few = k .few;
     filled = λ i h. stored (λ (m : Name). m ≡ named i) names j (first + i) n no-name size
@@ -83,8 +84,8 @@ module _ (s : List ℕ) (names : List Name) {first limit count : ℕ} {named : �
 
   -- the same names, held otherwise
   pub renamed :
-      (after : ℕ → Name) → ((i : ℕ) → after i ≡ named i) → Kind s names first limit count named →
-      Kind s names first limit count after
+      (after : ℕ → Name) → ((i : ℕ) → after i ≡ named i) → Kind s names first limit count named
+      → Kind s names first limit count after
   renamed after e k = record {
     few = k .few;
     filled = λ i h. k .filled i h ∙ sym (e i);
@@ -128,8 +129,8 @@ Differ s names = (i j : ℕ) → (i ≡ j → ⊥) → 0 < slot names i .len →
 
 -- one name more, spelled otherwise than all
 pub differ-more :
-    (s : List ℕ) (names : List Name) (k : ℕ) (n : Name) → length names ≡ name-slots → k < name-slots → 0 < n .len →
-    ((i : ℕ) → i < name-slots → Unlike s (slot names i) n) → Differ s names → Differ s (set names k n)
+    (s : List ℕ) (names : List Name) (k : ℕ) (n : Name) → length names ≡ name-slots → k < name-slots → 0 < n .len
+    → ((i : ℕ) → i < name-slots → Unlike s (slot names i) n) → Differ s names → Differ s (set names k n)
 unfolding Differ
 differ-more s names k n size room some other all i j d =
     stored (λ (m : Name). 0 < m .len → Unlike s m (slot (set names k n) j)) names k i n no-name (omega arith)

@@ -54,11 +54,12 @@ pub record Text-so-far (chosen : ℕ) (t : Text) : Type 0 where
   pub few : t .«edge_count» ≤ edge-limit
   pub init : t .init + chosen ≤ t .«location_count»
   pub invariant :
-      (l : ℕ) → l < t .«location_count» →
-      Formed-comparisons (t .«clock_count») true (getD (t .locations) l no-location .invariant)
+      (l : ℕ) → l < t .«location_count»
+      → Formed-comparisons (t .«clock_count») true (getD (t .locations) l no-location .invariant)
   pub edge :
-      (i : ℕ) → i < t .«edge_count» →
-      Formed-edge (t .«clock_count») (t .«location_count») (t .«channel_count») (t .channels) (getD (t .edges) i no-edge)
+      (i : ℕ) → i < t .«edge_count»
+      → Formed-edge (t .«clock_count») (t .«location_count») (t .«channel_count») (t .channels)
+      (getD (t .edges) i no-edge)
 
 pub record So-far (chosen : ℕ) (s : List ℕ) (names : List Name) (t : Text) : Type 0 where
   pub named : Names-so-far s names t
@@ -87,8 +88,8 @@ module _ (chosen : ℕ) (s : List ℕ) (names : List Name) (t : Text) (h : So-fa
 
     -- the names of another kind than that of slot k
     stays :
-        {first limit count : ℕ} {named : ℕ → Name} (k : ℕ) → k < name-slots → ((i : ℕ) → i < limit → first + i ≡ k → ⊥) →
-        Kind s names first limit count named → Kind s (set names k n) first limit count named
+        {first limit count : ℕ} {named : ℕ → Name} (k : ℕ) → k < name-slots → ((i : ℕ) → i < limit → first + i ≡ k → ⊥)
+        → Kind s names first limit count named → Kind s (set names k n) first limit count named
     stays k l off = elsewhere s names k n (omega (arith, h .named .size)) off
 
     -- the process
@@ -105,8 +106,8 @@ module _ (chosen : ℕ) (s : List ℕ) (names : List Name) (t : Text) (h : So-fa
     }
 
     pub channel-more :
-        t .«channel_count» < channel-limit →
-        So-far chosen s (set names (first-channel + t .«channel_count») n) (with-channel t n)
+        t .«channel_count» < channel-limit
+        → So-far chosen s (set names (first-channel + t .«channel_count») n) (with-channel t n)
     unfolding with-channel
     channel-more r = record {
       read = record {
@@ -139,7 +140,8 @@ module _ (chosen : ℕ) (s : List ℕ) (names : List Name) (t : Text) (h : So-fa
             (λ i l. name (getD-set-other (t .channels) (t .«channel_count») i new no-channel (λ e. omega arith)))
             (h .named .channels);
         clocks = stays (first-channel + t .«channel_count») (omega arith) (λ i l e. omega arith) (h .named .clocks);
-        locations = stays (first-channel + t .«channel_count») (omega arith) (λ i l e. omega arith) (h .named .locations);
+        locations = stays (first-channel + t .«channel_count») (omega arith) (λ i l e. omega arith)
+            (h .named .locations);
       };
     }
       where
@@ -153,8 +155,8 @@ module _ (chosen : ℕ) (s : List ℕ) (names : List Name) (t : Text) (h : So-fa
         name e = rw e
 
     pub clock-more :
-        t .«clock_count» < clock-limit →
-        So-far chosen s (set names (first-clock + t .«clock_count») n) (with-clock t n)
+        t .«clock_count» < clock-limit
+        → So-far chosen s (set names (first-clock + t .«clock_count») n) (with-clock t n)
     unfolding with-clock
     clock-more r = record {
       read = record {
@@ -190,8 +192,8 @@ module _ (chosen : ℕ) (s : List ℕ) (names : List Name) (t : Text) (h : So-fa
 
     -- a location's name leaves the clocks known
     pub clocks-stay :
-        t .«location_count» < location-limit →
-        Known s (set names (first-location + t .«location_count») n) first-clock clock-limit (t .«clock_count»)
+        t .«location_count» < location-limit
+        → Known s (set names (first-location + t .«location_count») n) first-clock clock-limit (t .«clock_count»)
     clocks-stay r = record {
       size = size-at (first-location + t .«location_count»);
       named = clock-name t;
@@ -199,8 +201,8 @@ module _ (chosen : ℕ) (s : List ℕ) (names : List Name) (t : Text) (h : So-fa
     }
 
     pub location-more :
-        (c : Constraint) → Formed-comparisons (t .«clock_count») true c → t .«location_count» < location-limit →
-        So-far chosen s (set names (first-location + t .«location_count») n) (with-location t n c)
+        (c : Constraint) → Formed-comparisons (t .«clock_count») true c → t .«location_count» < location-limit
+        → So-far chosen s (set names (first-location + t .«location_count») n) (with-location t n c)
     unfolding with-location clocks-stay
     location-more c g r = record {
       read = record {
@@ -228,10 +230,12 @@ module _ (chosen : ℕ) (s : List ℕ) (names : List Name) (t : Text) (h : So-fa
       named = record {
         size = size-at (first-location + t .«location_count»);
         differ = differ-at (first-location + t .«location_count») (omega arith);
-        channels = stays (first-location + t .«location_count») (omega arith) (λ i l e. omega arith) (h .named .channels);
+        channels = stays (first-location + t .«location_count») (omega arith) (λ i l e. omega arith)
+            (h .named .channels);
         clocks = clocks-stay r .kind;
         locations = one-more s names _ n (omega (arith, h .named .size)) r (f .within)
-            (name (getD-set-same (t .locations) (t .«location_count») new no-location (omega (arith, h .read .locations))))
+            (name (getD-set-same (t .locations) (t .«location_count») new no-location
+            (omega (arith, h .read .locations))))
             (λ i l. name (getD-set-other (t .locations) (t .«location_count») i new no-location (λ e. omega arith)))
             (h .named .locations);
       };
@@ -245,8 +249,8 @@ module _ (chosen : ℕ) (s : List ℕ) (names : List Name) (t : Text) (h : So-fa
 
 -- the start
 pub init-chosen :
-    (s : List ℕ) (names : List Name) (t : Text) (i : ℕ) → i < t .«location_count» → So-far 0 s names t →
-    So-far 1 s names (with-init t i)
+    (s : List ℕ) (names : List Name) (t : Text) (i : ℕ) → i < t .«location_count» → So-far 0 s names t
+    → So-far 1 s names (with-init t i)
 unfolding with-init
 init-chosen s names t i l h = record {
   named = record {
@@ -276,7 +280,8 @@ module _
       (c : ℕ) → k < channel-limit → getD (marked (t .channels) k input) c no-channel .name ≡ channel-name t c
   unfolding marked
   marked-name c r =
-      stored (λ (x : Channel). x .name ≡ channel-name t c) (t .channels) k c _ no-channel (omega (arith, h .read .channels))
+      stored (λ (x : Channel). x .name ≡ channel-name t c) (t .channels) k c _ no-channel
+      (omega (arith, h .read .channels))
       (λ q. rw q)
       (λ _. refl)
 
@@ -285,9 +290,9 @@ module _
   marked-size = length-set (t .channels) k _
 
   marked-agrees :
-      (f : Edge) → k < channel-limit → fits (direction-at (t .channels) k) input ≡ true →
-      Formed-edge (t .«clock_count») (t .«location_count») (t .«channel_count») (t .channels) f →
-      Formed-edge (t .«clock_count») (t .«location_count») (t .«channel_count») (marked (t .channels) k input) f
+      (f : Edge) → k < channel-limit → fits (direction-at (t .channels) k) input ≡ true
+      → Formed-edge (t .«clock_count») (t .«location_count») (t .«channel_count») (t .channels) f
+      → Formed-edge (t .«clock_count») (t .«location_count») (t .«channel_count») (marked (t .channels) k input) f
   unfolding marked
   marked-agrees f r fit g = record {
     guard = g .guard;
@@ -326,8 +331,8 @@ module _
     }
 
     pub edge-more :
-        fits (direction-at (t .channels) k) input ≡ true → t .«edge_count» < edge-limit →
-        So-far chosen s names (with-edge t e k input)
+        fits (direction-at (t .channels) k) input ≡ true → t .«edge_count» < edge-limit
+        → So-far chosen s names (with-edge t e k input)
     unfolding with-edge
     edge-more fit room = record {
       named = record {

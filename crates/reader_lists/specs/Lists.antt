@@ -1,17 +1,18 @@
--- The lists of a text: "Lists are joined by commas and are not empty." Each definition says for how many more items there is
--- room; the first past them is refused, "first item over a count limit, at its first name".
-use mathlib.Core.Bool.{Bool, true, false, cond}
+-- The lists of a text: "Lists are joined by commas and are not empty."
+use mathlib.Core.Bool.{cond}
 use mathlib.Core.List.{List}
-use Prim.Native.Nat.{ℕ, zero, suc, _-_}
+use Prim.Native.Nat.{ℕ, zero, suc}
+use lib.Dec.{leb}
 use Rattle.reader_tokens.specs.Kinds as kinds
 use Rattle.reader_record.specs.Limits.{channel-limit, clock-limit, location-limit, edge-limit}
 use Rattle.reader_parts.specs.declared.Status.{Status}
-use Rattle.reader_parts.specs.Status.{take, ahead}
+use Rattle.reader_parts.specs.Status.{ahead}
 use Rattle.reader_parts.specs.Names.{declare}
 use Rattle.reader_parts.specs.Slots.{first-channel, first-clock, first-location}
-use Rattle.reader_parts.specs.declared.Declaration.{Declaration}
 use Rattle.reader_constraints.specs.Constraints.{invariant}
 use Rattle.reader_edges.specs.Edges.{edge-next}
+use Rattle.reader_lists.specs.declared.Item.{Item}
+use Rattle.reader_lists.specs.declared.Item.the-variants.{Channel, Clock, Location, Edge}
 use Rattle.reader_lists.specs.declared.State.{State}
 use Rattle.reader_lists.specs.State.{next, with-channel, with-clock, with-location, with-edge}
 
@@ -19,55 +20,63 @@ use Rattle.reader_lists.specs.State.{next, with-channel, with-clock, wit
 abbrev pub stopped : State → Status → State
 stopped r st = record { status = st; names = r .names; text = r .text }
 
--- "`broadcast chan` names `;`": the names
-unfoldable pub channels-from : ℕ → List ℕ → State → State
-channels-from zero s r =
-    stopped r (declare s (r .status) (r .names) first-channel (r .text .«channel_count») channel-limit .status)
-channels-from (suc room) s r =
-    let d = declare s (r .status) (r .names) first-channel (r .text .«channel_count») channel-limit in
+-- one item more, of each kind: "first item over a count limit, at its first name" is refused, and the record stays
+
+-- "`broadcast chan` names `;`": a name
+unfoldable pub channel : List ℕ → State → State
+channel s r =
+    let n = r .text .«channel_count» in
+    let d = declare s (r .status) (r .names) first-channel n channel-limit in
     let q : State = record { status = d .status; names = d .names; text = with-channel (r .text) (d .name) } in
-    let more = channels-from room s (next s q kinds.comma) in
-    cond (ahead s (d .status) kinds.comma) more (next s q kinds.semicolon)
+    cond (leb channel-limit n) (stopped r (d .status)) q
 
-unfoldable pub channels : List ℕ → State → State
-channels s r = channels-from (channel-limit - r .text .«channel_count») s r
-
--- "`clock` names `;`": the names
-unfoldable pub clocks-from : ℕ → List ℕ → State → State
-clocks-from zero s r =
-    stopped r (declare s (r .status) (r .names) first-clock (r .text .«clock_count») clock-limit .status)
-clocks-from (suc room) s r =
-    let d = declare s (r .status) (r .names) first-clock (r .text .«clock_count») clock-limit in
+-- "`clock` names `;`": a name
+unfoldable pub clock : List ℕ → State → State
+clock s r =
+    let n = r .text .«clock_count» in
+    let d = declare s (r .status) (r .names) first-clock n clock-limit in
     let q : State = record { status = d .status; names = d .names; text = with-clock (r .text) (d .name) } in
-    let more = clocks-from room s (next s q kinds.comma) in
-    cond (ahead s (d .status) kinds.comma) more (next s q kinds.semicolon)
+    cond (leb clock-limit n) (stopped r (d .status)) q
 
-unfoldable pub clocks : List ℕ → State → State
-clocks s r = clocks-from (clock-limit - r .text .«clock_count») s r
-
--- "`state` locations `;` where a location is a name, optionally `{` invariant `}`": the locations
-unfoldable pub locations-from : ℕ → List ℕ → State → State
-locations-from zero s r =
-    stopped r (declare s (r .status) (r .names) first-location (r .text .«location_count») location-limit .status)
-locations-from (suc room) s r =
-    let d = declare s (r .status) (r .names) first-location (r .text .«location_count») location-limit in
+-- "`state` locations `;` where a location is a name, optionally `{` invariant `}`": a location
+unfoldable pub location : List ℕ → State → State
+location s r =
+    let n = r .text .«location_count» in
+    let d = declare s (r .status) (r .names) first-location n location-limit in
     let i = invariant s (d .status) (d .names) in
-    let q : State = record { status = i .status; names = d .names; text = with-location (r .text) (d .name) (i .constraint) } in
-    let more = locations-from room s (next s q kinds.comma) in
-    cond (ahead s (i .status) kinds.comma) more (next s q kinds.semicolon)
+    let u = with-location (r .text) (d .name) (i .constraint) in
+    let q : State = record { status = i .status; names = d .names; text = u } in
+    cond (leb location-limit n) (stopped r (d .status)) q
 
-unfoldable pub locations : List ℕ → State → State
-locations s r = locations-from (location-limit - r .text .«location_count») s r
+-- "`trans` edges `;`": an edge
+unfoldable pub edge : List ℕ → State → State
+edge s r =
+    let full = leb edge-limit (r .text .«edge_count») in
+    let e = edge-next s (r .status) (r .names) (r .text .channels) full in
+    let u = with-edge (r .text) (e .edge) (e .channel) (e .input) in
+    let q : State = record { status = e .status; names = r .names; text = u } in
+    cond full (stopped r (e .status)) q
 
--- "`trans` edges `;`": the edges
-unfoldable pub edges-from : ℕ → List ℕ → State → State
-edges-from zero s r =
-    stopped r (edge-next s (r .status) (r .names) (r .text .channels) true .status)
-edges-from (suc room) s r =
-    let e = edge-next s (r .status) (r .names) (r .text .channels) false in
-    let q : State = record { status = e .status; names = r .names; text = with-edge (r .text) (e .edge) (e .channel) (e .input) } in
-    let more = edges-from room s (next s q kinds.comma) in
-    cond (ahead s (e .status) kinds.comma) more (next s q kinds.semicolon)
+abbrev pub one-item : Item → List ℕ → State → State
+one-item Channel = channel
+one-item Clock = clock
+one-item Location = location
+one-item Edge = edge
 
-unfoldable pub edges : List ℕ → State → State
-edges s r = edges-from (edge-limit - r .text .«edge_count») s r
+-- how many items of a kind a text has at most
+abbrev pub limit : Item → ℕ
+limit Channel = channel-limit
+limit Clock = clock-limit
+limit Location = location-limit
+limit Edge = edge-limit
+
+-- a list where there is room for so many more items, and `;`: where there is none the next item is refused
+unfoldable pub items-from : ℕ → Item → List ℕ → State → State
+items-from zero k s r = one-item k s r
+items-from (suc room) k s r =
+    let q = one-item k s r in
+    let more = items-from room k s (next s q kinds.comma) in
+    cond (ahead s (q .status) kinds.comma) more (next s q kinds.semicolon)
+
+unfoldable pub items : Item → List ℕ → State → State
+items k s r = items-from (limit k) k s r

@@ -20,8 +20,8 @@ use Rattle.reader_constraints.specs.Constraints.{no-constraint}
 use Rattle.reader_edges.specs.Assigns.{no-resets}
 use Rattle.reader_lists.specs.declared.State.{State}
 
--- no edge, and as long as the code's arrays (the `no-edge` of reader_record stands past the end of a list, where an array
--- inside is empty)
+-- no edge, and as long as the code's arrays (the `no-edge` of reader_record stands past the end of a list, where an
+-- array inside is empty)
 unfoldable pub no-edge : Edge
 no-edge = record { source = 0; target = 0; guard = no-constraint; label = label.Input 0; resets = no-resets }
 

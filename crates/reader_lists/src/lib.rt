@@ -4,8 +4,8 @@ ghost use mathlib.Core.Bool.{Bool, true, false};
 ghost use Prim.Native.Nat.{ℕ, _+_, _-_, _≤_, _<_};
 ghost use lib.ListN.{length, getD, set};
 ghost use Rattle.reader_record.specs.Limits.{channel-limit, clock-limit, location-limit, edge-limit};
-ghost use Rattle.reader_lists.specs.State.{no-edge, no-text, next, with-channel, with-clock, with-location, direction-of, marked, with-edge, with-init};
-ghost use Rattle.reader_lists.specs.Lists.{stopped, channels, clocks, locations, edges};
+ghost use Rattle.reader_lists.specs.State.{no-edge, no-text, next, direction-of, marked, with-init};
+ghost use Rattle.reader_lists.specs.Lists.{channel, clock, location, edge, one-item, limit, items};
 use reader_parts::FIRST_CHANNEL;
 use reader_parts::FIRST_CLOCK;
 use reader_parts::FIRST_LOCATION;
@@ -23,6 +23,14 @@ use reader_record::Label;
 use reader_record::Location;
 use reader_record::Name;
 use reader_record::Text;
+
+// The kinds of item that a list of the text has.
+pub enum Item {
+    Channel,
+    Clock,
+    Location,
+    Edge,
+}
 
 // What the reader has read: how far it has come, the declared names by their slots, and the record so far.
 pub struct State {
@@ -94,64 +102,6 @@ pub fn next(s: &[u8], r: State, k: usize) -> State
     }
 }
 
-// The reader has come to st, and the record stays.
-fn stopped(r: State, st: Status) -> State
-    ensures { λ q. ⌜ q ≡ stopped r st ⌝ }
-{
-    let names = r.names;
-    let text = r.text;
-    State {
-        status: st,
-        names: names,
-        text: text,
-    }
-}
-
-// One channel more, which no edge names yet.
-fn with_channel(t: Text, n: Name) -> Text
-    requires { ⌜ t .«channel_count» < channel-limit ⌝ }
-    ensures { λ r. ⌜ r ≡ with-channel t n ⌝ }
-{
-    let mut u = t;
-    let k = u.channel_count;
-    let direction = Direction::Unused;
-    let channel = Channel {
-        name: n,
-        direction: direction,
-    };
-    u.channels[k] = channel;
-    u.channel_count = k + 1;
-    u
-}
-
-// One clock more.
-fn with_clock(t: Text, n: Name) -> Text
-    requires { ⌜ t .«clock_count» < clock-limit ⌝ }
-    ensures { λ r. ⌜ r ≡ with-clock t n ⌝ }
-{
-    let mut u = t;
-    let k = u.clock_count;
-    u.clocks[k] = n;
-    u.clock_count = k + 1;
-    u
-}
-
-// One location more, with its invariant.
-fn with_location(t: Text, n: Name, c: Constraint) -> Text
-    requires { ⌜ t .«location_count» < location-limit ⌝ }
-    ensures { λ r. ⌜ r ≡ with-location t n c ⌝ }
-{
-    let mut u = t;
-    let k = u.location_count;
-    let location = Location {
-        name: n,
-        invariant: c,
-    };
-    u.locations[k] = location;
-    u.location_count = k + 1;
-    u
-}
-
 fn direction_of(input: bool) -> Direction
     ensures { λ r. ⌜ r ≡ direction-of input ⌝ }
 {
@@ -178,21 +128,6 @@ fn marked(channels: [Channel; CHANNEL_LIMIT], k: usize, input: bool) -> [Channel
     all
 }
 
-// One edge more, and the direction that its mark says of its channel k.
-fn with_edge(t: Text, e: Edge, k: usize, input: bool) -> Text
-    requires { ⌜ (t .«edge_count» < edge-limit) × (k < channel-limit) ⌝ }
-    ensures { λ r. ⌜ r ≡ with-edge t e k input ⌝ }
-{
-    let mut u = t;
-    let before = u.channels;
-    let channels = marked(before, k, input);
-    u.channels = channels;
-    let n = u.edge_count;
-    u.edges[n] = e;
-    u.edge_count = n + 1;
-    u
-}
-
 // The location where the text starts.
 pub fn with_init(t: Text, i: usize) -> Text
     ensures { λ r. ⌜ r ≡ with-init t i ⌝ }
@@ -202,126 +137,175 @@ pub fn with_init(t: Text, i: usize) -> Text
     u
 }
 
-// The channels' names, joined by commas, and `;`.
-pub fn channels(s: &[u8], r: State) -> State
-    ensures { λ q. ⌜ q ≡ channels (now (s .entry)) r ⌝ }
+// One channel more: its name.
+fn channel(s: &[u8], r: State) -> State
+    ensures { λ q. ⌜ q ≡ channel (now (s .entry)) r ⌝ }
 {
-    let mut q = r;
-    loop {
-        let st = q.status;
-        let names = q.names;
-        let t = q.text;
-        let n = t.channel_count;
-        let d = reader_parts::declare(s, st, names, FIRST_CHANNEL, n, CHANNEL_LIMIT);
-        let came = d.status;
-        if CHANNEL_LIMIT <= n {
-            return stopped(q, came);
-        }
-        let all = d.names;
-        let name = d.name;
-        let u = with_channel(t, name);
-        let made = State {
-            status: came,
-            names: all,
-            text: u,
-        };
-        if !reader_parts::ahead(s, came, reader_tokens::COMMA) {
-            return next(s, made, reader_tokens::SEMICOLON);
-        }
-        q = next(s, made, reader_tokens::COMMA);
-    }
-}
-
-// The clocks' names, joined by commas, and `;`.
-pub fn clocks(s: &[u8], r: State) -> State
-    ensures { λ q. ⌜ q ≡ clocks (now (s .entry)) r ⌝ }
-{
-    let mut q = r;
-    loop {
-        let st = q.status;
-        let names = q.names;
-        let t = q.text;
-        let n = t.clock_count;
-        let d = reader_parts::declare(s, st, names, FIRST_CLOCK, n, CLOCK_LIMIT);
-        let came = d.status;
-        if CLOCK_LIMIT <= n {
-            return stopped(q, came);
-        }
-        let all = d.names;
-        let name = d.name;
-        let u = with_clock(t, name);
-        let made = State {
-            status: came,
-            names: all,
-            text: u,
-        };
-        if !reader_parts::ahead(s, came, reader_tokens::COMMA) {
-            return next(s, made, reader_tokens::SEMICOLON);
-        }
-        q = next(s, made, reader_tokens::COMMA);
-    }
-}
-
-// The locations with their invariants, joined by commas, and `;`.
-pub fn locations(s: &[u8], r: State) -> State
-    ensures { λ q. ⌜ q ≡ locations (now (s .entry)) r ⌝ }
-{
-    let mut q = r;
-    loop {
-        let st = q.status;
-        let names = q.names;
-        let t = q.text;
-        let n = t.location_count;
-        let d = reader_parts::declare(s, st, names, FIRST_LOCATION, n, LOCATION_LIMIT);
-        let came = d.status;
-        if LOCATION_LIMIT <= n {
-            return stopped(q, came);
-        }
-        let all = d.names;
-        let name = d.name;
-        let i = reader_constraints::invariant(s, came, all);
-        let end = i.status;
-        let invariant = i.constraint;
-        let u = with_location(t, name, invariant);
-        let made = State {
-            status: end,
-            names: all,
-            text: u,
-        };
-        if !reader_parts::ahead(s, end, reader_tokens::COMMA) {
-            return next(s, made, reader_tokens::SEMICOLON);
-        }
-        q = next(s, made, reader_tokens::COMMA);
-    }
-}
-
-// The edges, joined by commas, and `;`.
-pub fn edges(s: &[u8], r: State) -> State
-    ensures { λ q. ⌜ q ≡ edges (now (s .entry)) r ⌝ }
-{
-    let mut q = r;
-    loop {
-        let st = q.status;
-        let names = q.names;
-        let t = q.text;
-        let channels = t.channels;
-        if EDGE_LIMIT <= t.edge_count {
-            let e = reader_edges::edge_next(s, st, names, channels, true);
-            let no = e.status;
-            return stopped(q, no);
-        }
-        let e = reader_edges::edge_next(s, st, names, channels, false);
-        let came = e.status;
-        let edge = e.edge;
-        let u = with_edge(t, edge, e.channel, e.input);
-        let made = State {
+    let st = r.status;
+    let names = r.names;
+    let t = r.text;
+    let n = t.channel_count;
+    let d = reader_parts::declare(s, st, names, FIRST_CHANNEL, n, CHANNEL_LIMIT);
+    let came = d.status;
+    if CHANNEL_LIMIT <= n {
+        return State {
             status: came,
             names: names,
-            text: u,
+            text: t,
         };
-        if !reader_parts::ahead(s, came, reader_tokens::COMMA) {
-            return next(s, made, reader_tokens::SEMICOLON);
+    }
+    let all = d.names;
+    let name = d.name;
+    let direction = Direction::Unused;
+    let channel = Channel {
+        name: name,
+        direction: direction,
+    };
+    let mut u = t;
+    u.channels[n] = channel;
+    u.channel_count = n + 1;
+    State {
+        status: came,
+        names: all,
+        text: u,
+    }
+}
+
+// One clock more: its name.
+fn clock(s: &[u8], r: State) -> State
+    ensures { λ q. ⌜ q ≡ clock (now (s .entry)) r ⌝ }
+{
+    let st = r.status;
+    let names = r.names;
+    let t = r.text;
+    let n = t.clock_count;
+    let d = reader_parts::declare(s, st, names, FIRST_CLOCK, n, CLOCK_LIMIT);
+    let came = d.status;
+    if CLOCK_LIMIT <= n {
+        return State {
+            status: came,
+            names: names,
+            text: t,
+        };
+    }
+    let all = d.names;
+    let name = d.name;
+    let mut u = t;
+    u.clocks[n] = name;
+    u.clock_count = n + 1;
+    State {
+        status: came,
+        names: all,
+        text: u,
+    }
+}
+
+// One location more: its name and its invariant.
+fn location(s: &[u8], r: State) -> State
+    ensures { λ q. ⌜ q ≡ location (now (s .entry)) r ⌝ }
+{
+    let st = r.status;
+    let names = r.names;
+    let t = r.text;
+    let n = t.location_count;
+    let d = reader_parts::declare(s, st, names, FIRST_LOCATION, n, LOCATION_LIMIT);
+    let came = d.status;
+    if LOCATION_LIMIT <= n {
+        return State {
+            status: came,
+            names: names,
+            text: t,
+        };
+    }
+    let all = d.names;
+    let name = d.name;
+    let i = reader_constraints::invariant(s, came, all);
+    let end = i.status;
+    let invariant = i.constraint;
+    let location = Location {
+        name: name,
+        invariant: invariant,
+    };
+    let mut u = t;
+    u.locations[n] = location;
+    u.location_count = n + 1;
+    State {
+        status: end,
+        names: all,
+        text: u,
+    }
+}
+
+// One edge more.
+fn edge(s: &[u8], r: State) -> State
+    ensures { λ q. ⌜ q ≡ edge (now (s .entry)) r ⌝ }
+{
+    let st = r.status;
+    let names = r.names;
+    let t = r.text;
+    let channels = t.channels;
+    let full = EDGE_LIMIT <= t.edge_count;
+    let e = reader_edges::edge_next(s, st, names, channels, full);
+    let came = e.status;
+    if full {
+        return State {
+            status: came,
+            names: names,
+            text: t,
+        };
+    }
+    let edge = e.edge;
+    let now = marked(channels, e.channel, e.input);
+    let n = t.edge_count;
+    let mut u = t;
+    u.channels = now;
+    u.edges[n] = edge;
+    u.edge_count = n + 1;
+    State {
+        status: came,
+        names: names,
+        text: u,
+    }
+}
+
+fn one_item(s: &[u8], r: State, k: Item) -> State
+    ensures { λ q. ⌜ q ≡ one-item k (now (s .entry)) r ⌝ }
+{
+    match k {
+        Item::Channel => channel(s, r),
+        Item::Clock => clock(s, r),
+        Item::Location => location(s, r),
+        Item::Edge => edge(s, r),
+    }
+}
+
+fn limit(k: Item) -> usize
+    ensures { λ n. ⌜ n ≡ limit k ⌝ }
+{
+    match k {
+        Item::Channel => CHANNEL_LIMIT,
+        Item::Clock => CLOCK_LIMIT,
+        Item::Location => LOCATION_LIMIT,
+        Item::Edge => EDGE_LIMIT,
+    }
+}
+
+// The items of one kind, joined by commas, and `;`.
+pub fn items(s: &[u8], r: State, k: Item) -> State
+    ensures { λ q. ⌜ q ≡ items k (now (s .entry)) r ⌝ }
+{
+    let mut q = r;
+    let mut room = limit(k);
+    loop {
+        q = one_item(s, q, k);
+        if room == 0 {
+            return q;
         }
-        q = next(s, made, reader_tokens::COMMA);
+        let st = q.status;
+        if !reader_parts::ahead(s, st, reader_tokens::COMMA) {
+            return next(s, q, reader_tokens::SEMICOLON);
+        }
+        q = next(s, q, reader_tokens::COMMA);
+        room -= 1;
     }
 }

@@ -18,11 +18,13 @@ module _ (s : List ℕ) (names : List Name) (first limit : ℕ) (over : Bool) (h
   small-of n (Refused f) = h
   small-of n (At e) = by (leb first (slot-of s names n)) refl (ltb (slot-of s names n) (first + limit)) refl over refl
     where
-      by : (a : Bool) → leb first (slot-of s names n) ≡ a → (b : Bool) → ltb (slot-of s names n) (first + limit) ≡ b → (o : Bool) → over ≡ o → use-of s names first limit over n (At e) .number < limit
+      by : (a : Bool) → leb first (slot-of s names n) ≡ a → (b : Bool) → ltb (slot-of s names n) (first + limit) ≡ b
+          → (o : Bool) → over ≡ o → use-of s names first limit over n (At e) .number < limit
       by false p b q o r = rw p h
       by true p false q o r = rw (p, q) h
       by true p true q true r = rw (p, q, r) h
-      by true p true q false r = rw (p, q, r) (omega (arith, leb-true first (slot-of s names n) p, ltb-true (slot-of s names n) (first + limit) q))
+      by true p true q false r = rw (p, q, r) (omega
+          (arith, leb-true first (slot-of s names n) p, ltb-true (slot-of s names n) (first + limit) q))
 
   pub use-small : (st : Status) → use-name s st names first limit over .number < limit
   unfolding use-name

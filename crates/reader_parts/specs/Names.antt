@@ -28,8 +28,8 @@ slot-of s names w = past (differs s w) names 0
 abbrev pub no-declaration : List Name → Name → Fault → Declaration
 no-declaration names n f = record { status = Refused f; names = names; name = n }
 
--- the name n, past which the reader has come to st, is declared: number `number` of those in the `limit` slots from `first` on.
--- "name declared before" is judged before "first item over a count limit"
+-- the name n, past which the reader has come to st, is declared: number `number` of those in the `limit` slots from
+-- `first` on. "name declared before" is judged before "first item over a count limit"
 unfoldable pub declare-name : List ℕ → List Name → ℕ → ℕ → ℕ → Name → Status → Declaration
 declare-name s names first number limit n (Refused f) = no-declaration names n f
 declare-name s names first number limit n (At e) =
@@ -49,8 +49,8 @@ declare s st names first number limit =
 abbrev pub no-use : Fault → Use
 no-use f = record { status = Refused f; number = 0; place = 0 }
 
--- the name n, past which the reader has come to st, is used: it has to be declared in one of the `limit` slots from `first` on.
--- "name undeclared or of the wrong kind" is judged before "first item over a count limit"
+-- the name n, past which the reader has come to st, is used: it has to be declared in one of the `limit` slots from
+-- `first` on. "name undeclared or of the wrong kind" is judged before "first item over a count limit"
 unfoldable pub use-of : List ℕ → List Name → ℕ → ℕ → Bool → Name → Status → Use
 use-of s names first limit over n (Refused f) = no-use f
 use-of s names first limit over n (At e) =

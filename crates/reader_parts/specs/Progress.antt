@@ -30,7 +30,8 @@ module _ (s : List ℕ) where
   left-all (Refused f) = omega arith
 
   -- past a token of the kind k, which is not the end
-  pub past-token : (p k : ℕ) → eqb k kinds.end ≡ false → eqb (token-at s p .kind) k ≡ true → left s (At (token-at s p .end)) < left s (At p)
+  pub past-token : (p k : ℕ) → eqb k kinds.end ≡ false → eqb (token-at s p .kind) k ≡ true
+      → left s (At (token-at s p .end)) < left s (At p)
   unfolding left
   past-token p k n e =
       let some : eqb (token-at s p .kind) kinds.end ≡ false = rw (eqb-true (token-at s p .kind) k e) n in
@@ -38,7 +39,8 @@ module _ (s : List ℕ) where
       omega (arith, t .after, t .within)
 
   -- a token of the kind k is taken
-  pub take-less : (st : Status) (k : ℕ) → eqb k kinds.end ≡ false → ahead s st k ≡ true → left s (take s st k) < left s st
+  pub take-less : (st : Status) (k : ℕ) → eqb k kinds.end ≡ false → ahead s st k ≡ true → left s (take s st k)
+      < left s st
   unfolding take ahead
   take-less (At p) k n e = rw e (past-token p k n e)
   take-less (Refused f) k n e = let z : _≡_ {A = ℕ} 0 1 = cc in absurd (omega arith)
@@ -55,12 +57,13 @@ module _ (s : List ℕ) where
   name-no-more : (st : Status) → left s (name-next s st .status) ≤ left s st
   unfolding name-next name-of left
   name-no-more (Refused f) = omega arith
-  name-no-more (At p) = by (eqb (token-at s p .kind) kinds.name) refl (ltb largest-name (token-at s p .end - token-at s p .place)) refl
+  name-no-more (At p) = by (eqb (token-at s p .kind) kinds.name) refl
+      (ltb largest-name (token-at s p .end - token-at s p .place)) refl
     where
       by :
-          (a : Bool) → eqb (token-at s p .kind) kinds.name ≡ a →
-          (b : Bool) → ltb largest-name (token-at s p .end - token-at s p .place) ≡ b →
-          left s (name-next s (At p) .status) ≤ left s (At p)
+          (a : Bool) → eqb (token-at s p .kind) kinds.name ≡ a
+          → (b : Bool) → ltb largest-name (token-at s p .end - token-at s p .place) ≡ b
+          → left s (name-next s (At p) .status) ≤ left s (At p)
       by false e b f = rw e (omega arith)
       by true e true f = rw (e, f) (omega arith)
       by true e false f = rw (e, f) (omega (arith, past-token p kinds.name refl e))
@@ -69,11 +72,12 @@ module _ (s : List ℕ) where
     used-no-more : (n : Name) (st : Status) → left s (use-of s names first limit over n st .status) ≤ left s st
     unfolding use-of left
     used-no-more n (Refused f) = omega arith
-    used-no-more n (At e) = by (leb first (slot-of s names n)) refl (ltb (slot-of s names n) (first + limit)) refl over refl
+    used-no-more n (At e) = by (leb first (slot-of s names n)) refl (ltb (slot-of s names n) (first + limit)) refl over
+        refl
       where
         by :
-            (a : Bool) → leb first (slot-of s names n) ≡ a → (b : Bool) → ltb (slot-of s names n) (first + limit) ≡ b →
-            (o : Bool) → over ≡ o → left s (use-of s names first limit over n (At e) .status) ≤ left s (At e)
+            (a : Bool) → leb first (slot-of s names n) ≡ a → (b : Bool) → ltb (slot-of s names n) (first + limit) ≡ b
+            → (o : Bool) → over ≡ o → left s (use-of s names first limit over n (At e) .status) ≤ left s (At e)
         by false p b q o r = rw p (omega arith)
         by true p false q o r = rw (p, q) (omega arith)
         by true p true q true r = rw (p, q, r) (omega arith)

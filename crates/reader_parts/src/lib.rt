@@ -50,7 +50,7 @@ pub fn take(s: &[u8], st: Status, k: usize) -> Status
     match st {
         Status::Refused(f) => Status::Refused(f),
         Status::At(p) => {
-            let t = reader_tokens::token_at(s, p);
+            let t = reader_scanner::scan(s, p);
             if t.kind == k {
                 return Status::At(t.end);
             }
@@ -67,7 +67,7 @@ pub fn ahead(s: &[u8], st: Status, k: usize) -> bool
     match st {
         Status::Refused(_) => false,
         Status::At(p) => {
-            let t = reader_tokens::token_at(s, p);
+            let t = reader_scanner::scan(s, p);
             t.kind == k
         }
     }
@@ -97,7 +97,7 @@ pub fn name_next(s: &[u8], st: Status) -> NameRead
     match st {
         Status::Refused(f) => no_name_read(f),
         Status::At(p) => {
-            let t = reader_tokens::token_at(s, p);
+            let t = reader_scanner::scan(s, p);
             if t.kind != reader_tokens::NAME {
                 let f = Fault::Misfit(t.place);
                 return no_name_read(f);

@@ -1,17 +1,28 @@
-// Prints what reading returns, for programs that show it: a line for the answer, then a line for each of the first items.
+// Prints what reading returns, for programs that show it: a line for
+// the answer, then a line for each of the first items.
 use reader::Answer;
 use reader::Parsed;
+use reader_record::CHANNEL_LIMIT;
+use reader_record::CLOCK_LIMIT;
+use reader_record::COMPARISON_LIMIT;
 use reader_record::Comparison;
 use reader_record::Constraint;
 use reader_record::Direction;
+use reader_record::EDGE_LIMIT;
+use reader_record::LOCATION_LIMIT;
 use reader_record::Label;
 use reader_record::Name;
 use reader_record::Sign;
 use reader_record::Text;
 use refusals::Refusal;
 
-// How many items of a list have a line.
-const SHOWN: usize = 4;
+// The lists of a text.
+enum List {
+    Channels,
+    Clocks,
+    Locations,
+    Edges,
+}
 
 fn put(n: usize) {
     io::write_all(1, b" ");
@@ -49,17 +60,24 @@ fn comparison(c: Comparison) {
     put(c.bound);
 }
 
-fn constraint(c: Constraint) {
-    let all = c.comparisons;
-    let mut i = 0;
-    while i < SHOWN {
-        if c.count <= i {
-            return;
-        }
-        let x = all[i];
-        comparison(x);
-        i += 1;
+// The comparison number i of a constraint that has it.
+fn comparison_at(c: Constraint, i: usize) {
+    if c.count <= i {
+        return;
     }
+    if COMPARISON_LIMIT <= i {
+        return;
+    }
+    let all = c.comparisons;
+    let x = all[i];
+    comparison(x);
+}
+
+fn constraint(c: Constraint) {
+    comparison_at(c, 0);
+    comparison_at(c, 1);
+    comparison_at(c, 2);
+    comparison_at(c, 3);
 }
 
 fn label(l: Label) {
@@ -75,85 +93,101 @@ fn label(l: Label) {
     }
 }
 
-fn channels(t: Text) {
-    let mut i = 0;
-    while i < SHOWN {
-        if t.channel_count <= i {
-            return;
-        }
-        let c = t.channels[i];
-        io::write_all(1, b"  channel");
-        let n = c.name;
-        name(n);
-        let d = c.direction;
-        direction(d);
-        io::write_all(1, b"\n");
-        i += 1;
+// The channel number i of a text that has it, and so for the clocks, the locations and the edges.
+fn channel(t: Text, i: usize) {
+    if t.channel_count <= i {
+        return;
     }
+    if CHANNEL_LIMIT <= i {
+        return;
+    }
+    let c = t.channels[i];
+    io::write_all(1, b"  channel");
+    let n = c.name;
+    name(n);
+    let d = c.direction;
+    direction(d);
+    io::write_all(1, b"\n");
 }
 
-fn clocks(t: Text) {
-    let mut i = 0;
-    while i < 3 {
-        if t.clock_count <= i {
-            return;
-        }
-        let n = t.clocks[i];
-        io::write_all(1, b"  clock");
-        name(n);
-        io::write_all(1, b"\n");
-        i += 1;
+fn clock(t: Text, i: usize) {
+    if t.clock_count <= i {
+        return;
     }
+    if CLOCK_LIMIT <= i {
+        return;
+    }
+    let n = t.clocks[i];
+    io::write_all(1, b"  clock");
+    name(n);
+    io::write_all(1, b"\n");
 }
 
-fn locations(t: Text) {
-    let mut i = 0;
-    while i < SHOWN {
-        if t.location_count <= i {
-            return;
-        }
-        let l = t.locations[i];
-        io::write_all(1, b"  location");
-        let n = l.name;
-        name(n);
-        let c = l.invariant;
-        constraint(c);
-        io::write_all(1, b"\n");
-        i += 1;
+fn location(t: Text, i: usize) {
+    if t.location_count <= i {
+        return;
+    }
+    if LOCATION_LIMIT <= i {
+        return;
+    }
+    let l = t.locations[i];
+    io::write_all(1, b"  location");
+    let n = l.name;
+    name(n);
+    let c = l.invariant;
+    constraint(c);
+    io::write_all(1, b"\n");
+}
+
+fn reset(set: bool, clock: usize) {
+    if set {
+        io::write_all(1, b" reset");
+        put(clock);
     }
 }
 
 // Which of the three clocks an edge sets to 0.
-fn resets(all: [bool; 3]) {
-    let mut i = 0;
-    while i < 3 {
-        if all[i] {
-            io::write_all(1, b" reset");
-            put(i);
-        }
-        i += 1;
+fn resets(all: [bool; CLOCK_LIMIT]) {
+    reset(all[0], 0);
+    reset(all[1], 1);
+    reset(all[2], 2);
+}
+
+fn edge(t: Text, i: usize) {
+    if t.edge_count <= i {
+        return;
+    }
+    if EDGE_LIMIT <= i {
+        return;
+    }
+    let e = t.edges[i];
+    io::write_all(1, b"  edge");
+    put(e.source);
+    put(e.target);
+    let l = e.label;
+    label(l);
+    let g = e.guard;
+    constraint(g);
+    let r = e.resets;
+    resets(r);
+    io::write_all(1, b"\n");
+}
+
+fn item(t: Text, k: List, i: usize) {
+    match k {
+        List::Channels => channel(t, i),
+        List::Clocks => clock(t, i),
+        List::Locations => location(t, i),
+        List::Edges => edge(t, i),
     }
 }
 
-fn edges(t: Text) {
-    let mut i = 0;
-    while i < SHOWN {
-        if t.edge_count <= i {
-            return;
-        }
-        let e = t.edges[i];
-        io::write_all(1, b"  edge");
-        put(e.source);
-        put(e.target);
-        let l = e.label;
-        label(l);
-        let g = e.guard;
-        constraint(g);
-        let r = e.resets;
-        resets(r);
-        io::write_all(1, b"\n");
-        i += 1;
-    }
+// A line for each of the first four items of a list.
+fn first_items(t: Text, k: List) {
+    item(t, k, 0);
+    item(t, k, 1);
+    item(t, k, 2);
+    item(t, k, 3);
 }
 
 fn accepted(t: Text) {
@@ -164,10 +198,10 @@ fn accepted(t: Text) {
     put(t.edge_count);
     put(t.init);
     io::write_all(1, b"\n");
-    channels(t);
-    clocks(t);
-    locations(t);
-    edges(t);
+    first_items(t, List::Channels);
+    first_items(t, List::Clocks);
+    first_items(t, List::Locations);
+    first_items(t, List::Edges);
 }
 
 fn refused(f: Refusal) {
@@ -179,8 +213,8 @@ fn refused(f: Refusal) {
     io::write_all(1, b"\n");
 }
 
-// ` refused` code file p q, or ` accepted`, the counts of channels, clocks, locations and edges and the init location, and the
-// first items of each list.
+// ` refused` code file p q, or ` accepted`, the counts of channels, clocks, locations and edges and the init
+// location, and the first items of each list.
 pub fn print(p: Parsed) {
     let a = p.answer;
     match a {

@@ -1,4 +1,5 @@
--- What reading promises of a record: the limits of document 01, and that every number in it names something that is there.
+-- What reading promises of a record: the limits of document 01, and
+-- that every number in it names something that is there.
 use mathlib.Core.Path.{_≡_}
 use mathlib.Core.Bool.{Bool, true, false}
 use Prim.Native.Nat.{ℕ, _≤_, _<_}
@@ -35,9 +36,12 @@ pub record Well-formed (t : Text) : Type 0 where
   pub edges : t .«edge_count» ≤ edge-limit
   pub init : t .init < t .«location_count»
   pub invariant : (l : ℕ) → l < t .«location_count» → Formed-constraint (t .«clock_count») (invariant-of t l)
-  pub at-most : (l i : ℕ) → l < t .«location_count» → i < invariant-of t l .count → comparison (invariant-of t l) i .sign ≡ AtMost
+  pub at-most : (l i : ℕ) → l < t .«location_count» → i < invariant-of t l .count
+      → comparison (invariant-of t l) i .sign ≡ AtMost
   pub guard : (i : ℕ) → i < t .«edge_count» → Formed-constraint (t .«clock_count») (edge t i .guard)
   pub source : (i : ℕ) → i < t .«edge_count» → edge t i .source < t .«location_count»
   pub target : (i : ℕ) → i < t .«edge_count» → edge t i .target < t .«location_count»
-  pub direction : (i : ℕ) → i < t .«edge_count» → T (agrees (edge t i .label) (direction-of t (channel (edge t i .label))))
-  pub label : (i : ℕ) → i < t .«edge_count» → (0 < channel (edge t i .label)) × (channel (edge t i .label) ≤ t .«channel_count»)
+  pub direction : (i : ℕ) → i < t .«edge_count» → T
+      (agrees (edge t i .label) (direction-of t (channel (edge t i .label))))
+  pub label : (i : ℕ) → i < t .«edge_count» → (0 < channel (edge t i .label))
+      × (channel (edge t i .label) ≤ t .«channel_count»)

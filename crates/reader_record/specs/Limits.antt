@@ -1,5 +1,5 @@
--- Document 01: "Limits: text 32,768 bytes; name 31 bytes; 16 channels; 3 clocks; 32 locations; 128 edges; 4 comparisons in
--- a guard or invariant; constant 1,000; 4,096 states."
+-- Document 01: "Limits: text 32,768 bytes; name 31 bytes; 16 channels; 3 clocks; 32 locations; 128 edges; 4
+-- comparisons in a guard or invariant; constant 1,000; 4,096 states."
 use Prim.Native.Nat.{ℕ}
 
 abbrev pub largest-text : ℕ

@@ -1,4 +1,5 @@
--- The record of a contract text, read item by item. Where an index is past the end of a list, the answer is a fixed empty item.
+-- The record of a contract text, read item by item. Where an index is
+-- past the end of a list, the answer is a fixed empty item.
 use mathlib.Core.List.{[]}
 use Prim.Native.Nat.{ℕ, _-_}
 use lib.ListN.{getD}

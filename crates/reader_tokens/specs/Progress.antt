@@ -1,15 +1,15 @@
 -- Every token but the end takes a byte or more of the text: the reason why reading ends.
-use mathlib.Core.Path.{_≡_, refl, _∙_}
-use mathlib.Core.Bool.{Bool, true, false, cond, _||_, and-false}
+use mathlib.Core.Path.{_≡_, refl}
+use mathlib.Core.Bool.{Bool, true, false, cond, and-false}
 use mathlib.Core.List.{List, [], _∷_}
-use Prim.Native.Nat.{ℕ, zero, suc, _+_, _-_, _≤_, _<_}
+use Prim.Native.Nat.{ℕ, max, _+_, _≤_, _<_}
 use native.Mathlib.Omega.{arith}
-use lib.Dec.{eqb, leb, ltb}
+use lib.Dec.{eqb, ltb}
 use lib.ListN.{length, drop, getD, length-drop, List·getD-eq-default}
 use lib.Seq.{drop-cons}
 use borrow.Author.Tests.{ltb-true, ltb-false, lt-ltb, eqb-true}
-use Rattle.reader_tokens.specs.Scan.{is-space, is-letter, is-digit, is-part, run, past}
-use Rattle.reader_tokens.specs.Kinds.{end, stray, comma, semicolon, opens, closes, left-paren, right-paren, input, output, becomes}
+use Rattle.reader_tokens.specs.Scan.{bytes, member, is-space, is-letter, is-digit, is-part, run, past}
+use Rattle.reader_tokens.specs.Kinds.{end, stray}
 use Rattle.reader_tokens.specs.Tokens.{is-pair, is-single, mark-kind, mark-length, mark-at, word-at, token-from, token-at}
 use Rattle.reader_tokens.specs.declared.Token.{Token}
 
@@ -31,29 +31,32 @@ pub past-from : {A : Type 0} (p : A → Bool) (s : List A) (at : ℕ) → at ≤
 unfolding past
 past-from p s at = omega arith
 
-module _ {A : Type 0} (p : A → Bool) (s : List A) (at : ℕ) (d : A) (h : at < length s) (e : p (getD s at d) ≡ true) where
-  past-after : at < past p s at
-  unfolding run past
-  past-after = rw (drop-cons s at d, e) (omega arith)
+module _ {A : Type 0} (p : A → Bool) (s : List A) (at : ℕ) (d : A) (h : at < length s) (e : p (getD s at d) ≡ true)
+  where
+    past-after : at < past p s at
+    unfolding run past
+    past-after = rw (drop-cons s at d, e) (omega arith)
 
-  past-within : past p s at ≤ length s
-  unfolding past
-  past-within = omega (arith, run-within p (drop at s), length-drop at s)
+    past-within : past p s at ≤ length s
+    unfolding past
+    past-within = omega (arith, run-within p (drop at s), length-drop at s)
 
-either : {P : Type 0} (a b : Bool) → (a || b) ≡ true → (a ≡ true → P) → (b ≡ true → P) → P
-either true b h f g = f refl
-either false b h f g = g h
+largest : List ℕ → ℕ
+largest [] = 0
+largest (k ∷ ks) = max k (largest ks)
+
+member-most : (a : ℕ) (ks : List ℕ) → member a ks ≡ true → a ≤ largest ks
+unfolding largest
+member-most a [] e = let never : _≡_ {A = ℕ} 0 1 = cc in absurd (omega arith)
+member-most a (k ∷ ks) e = by (eqb a k) refl (λ h. member-most a ks h)
+  where
+    by : (t : Bool) → eqb a k ≡ t → (member a ks ≡ true → a ≤ largest ks) → a ≤ max k (largest ks)
+    by true q f = omega (arith, eqb-true a k q)
+    by false q f = omega (arith, f (rw q at e))
 
 single-small : (a : ℕ) → is-single a ≡ true → a < 256
-unfolding is-single
-single-small a h =
-    either _ _ h (is comma (omega arith)) λ h. either _ _ h (is semicolon (omega arith)) λ h.
-    either _ _ h (is opens (omega arith)) λ h. either _ _ h (is closes (omega arith)) λ h.
-    either _ _ h (is left-paren (omega arith)) λ h. either _ _ h (is right-paren (omega arith)) λ h.
-    either _ _ h (is input (omega arith)) λ h. either _ _ h (is output (omega arith)) (is becomes (omega arith))
-  where
-    is : (k : ℕ) → k < 256 → eqb a k ≡ true → a < 256
-    is k l e = omega (arith, eqb-true a k e)
+unfolding is-single largest
+single-small a h = omega (arith, member-most a (bytes ",;{}()?!=") h)
 
 -- a mark before no byte, which is read as 0, has one byte
 mark-alone : (a : ℕ) → mark-length (mark-kind a 0) ≡ 1
@@ -87,8 +90,16 @@ module _ (s : List ℕ) (p : ℕ) (h : p < length s) where
       last l = rw (List·getD-eq-default s 0 l) (mark-alone (getD s p 0))
 
       by : (t : Bool) → ltb (p + 1) (length s) ≡ t → Takes s p (mark-at s p)
-      by true e = record { after = omega (arith, sizes .0); within = omega (arith, sizes .1, ltb-true (p + 1) (length s) e) }
-      by false e = record { after = omega (arith, sizes .0); within = omega (arith, last (ltb-false (p + 1) (length s) e)) }
+      by true e = record {
+        after = omega (arith, sizes .0);
+        within =
+            omega (arith, sizes .1, ltb-true (p + 1) (length s) e);
+      }
+      by false e = record {
+        after = omega (arith, sizes .0);
+        within =
+            omega (arith, last (ltb-false (p + 1) (length s) e));
+      }
 
   word-takes : is-letter (getD s p 0) ≡ true → Takes s p (word-at s p)
   unfolding word-at is-part
@@ -100,9 +111,11 @@ unfolding token-from
 token-from-takes s p n = by (ltb p (length s)) refl (is-letter (getD s p 0)) refl (is-digit (getD s p 0)) refl n
   where
     by :
-        (a : Bool) → ltb p (length s) ≡ a → (b : Bool) → is-letter (getD s p 0) ≡ b → (c : Bool) → is-digit (getD s p 0) ≡ c →
+        (a : Bool) → ltb p (length s) ≡ a → (b : Bool) → is-letter (getD s p 0) ≡ b → (c : Bool) → is-digit (getD s p 0)
+        ≡ c →
         eqb (token-from s p .kind) end ≡ false → Takes s p (token-from s p)
-    by false e b f c g n = let z : _≡_ {A = Bool} true false = rw e at n in let never : _≡_ {A = ℕ} 0 1 = cc in absurd (omega arith)
+    by false e b f c g n = let z : _≡_ {A = Bool} true false = rw e at n in let never : _≡_ {A = ℕ} 0 1 = cc in
+        absurd (omega arith)
     by true e true f c g n = rw (e, f) (word-takes s p (ltb-true p (length s) e) f)
     by true e false f true g n =
         let h : p < length s = ltb-true p (length s) e in
@@ -113,5 +126,6 @@ token-from-takes s p n = by (ltb p (length s)) refl (is-letter (getD s p 0)) ref
 pub token-takes : (s : List ℕ) (at : ℕ) → eqb (token-at s at .kind) end ≡ false → Takes s at (token-at s at)
 unfolding token-at
 token-takes s at n =
-    let t : Takes s (past is-space s at) (token-from s (past is-space s at)) = token-from-takes s (past is-space s at) n in
+    let t : Takes s (past is-space s at) (token-from s (past is-space s at)) = token-from-takes s (past is-space s at) n
+    in
     record { after = omega (arith, past-from is-space s at, t .after); within = t .within }

@@ -3,13 +3,24 @@ use mathlib.Core.Bool.{Bool, true, false, cond, _||_, _&&_}
 use mathlib.Core.List.{List, [], _∷_}
 use Prim.Native.Nat.{ℕ, zero, suc, _+_, _*_, _-_}
 use Prim.Native.Char.{Char, code}
+use Prim.Native.String.{String}
 use lib.Dec.{eqb, leb}
 use lib.ListN.{drop}
 use Rattle.reader_record.specs.Limits.{largest-constant}
 
+-- the bytes of a quoted text
+abbrev pub bytes : String → List ℕ
+bytes String.[] = []
+bytes (String._∷_ c s) = code c ∷ bytes s
+
+-- b is one of the bytes
+abbrev pub member : ℕ → List ℕ → Bool
+member b [] = false
+member b (k ∷ ks) = eqb b k || member b ks
+
 -- "Space, tab, CR and LF may stand between tokens"
 unfoldable pub is-space : ℕ → Bool
-is-space b = eqb b (code " ") || (eqb b (code "\t") || (eqb b (code "\r") || eqb b (code "\n")))
+is-space b = member b (bytes " \t\r\n")
 
 abbrev pub from-to : Char → Char → ℕ → Bool
 from-to a z b = leb (code a) b && leb b (code z)

@@ -1,19 +1,21 @@
 -- The token at or after a place: "the longest token counts".
-use mathlib.Core.Bool.{Bool, true, false, cond, _||_, _&&_}
+use mathlib.Core.Bool.{Bool, cond, _||_, _&&_}
 use mathlib.Core.List.{List, [], _∷_}
 use Prim.Native.Nat.{ℕ, suc, _+_, _-_}
 use Prim.Native.Char.{Char, code}
-use Prim.Native.String.{String}
-use lib.Dec.{eqb, leb, ltb}
+use lib.Dec.{eqb, ltb}
 use lib.ListN.{length, drop, getD}
-use Rattle.reader_tokens.specs.Scan.{is-space, is-letter, is-digit, is-part, past, same}
-use Rattle.reader_tokens.specs.Kinds.{end, stray, name, numeral, broadcast, comma, semicolon, opens, closes, left-paren, right-paren, input, output, becomes, pair}
+use Rattle.reader_tokens.specs.Scan.{bytes, member, is-space, is-letter, is-digit, is-part, past, same}
+use Rattle.reader_tokens.specs.Kinds.{end, stray, name, numeral, broadcast, pair}
+use Rattle.reader_tokens.specs.declared.Class.{Class}
+use Rattle.reader_tokens.specs.declared.Class.the-variants.{Space, Part, Digit}
 use Rattle.reader_tokens.specs.declared.Token.{Token}
 
--- the bytes of a quoted text
-abbrev pub bytes : String → List ℕ
-bytes String.[] = []
-bytes (String._∷_ c s) = code c ∷ bytes s
+-- the test of a class of bytes
+abbrev pub is-in : Class → ℕ → Bool
+is-in Space = is-space
+is-in Part = is-part
+is-in Digit = is-digit
 
 -- the words of document 01 in the order of their kinds: "the words above are not names"
 unfoldable pub words : List (List ℕ)
@@ -49,12 +51,7 @@ is-pair a b = are "-" ">" a b || (are "<" "=" a b || (are ">" "=" a b || (are "=
 
 -- the marks of one byte
 unfoldable pub is-single : ℕ → Bool
-is-single a =
-    eqb a comma
-    || (eqb a semicolon
-    || (eqb a opens
-    || (eqb a closes
-    || (eqb a left-paren || (eqb a right-paren || (eqb a input || (eqb a output || eqb a becomes)))))))
+is-single a = member a (bytes ",;{}()?!=")
 
 -- the kind of the mark that starts with the byte a, before the byte b: two bytes before one
 unfoldable pub mark-kind : ℕ → ℕ → ℕ

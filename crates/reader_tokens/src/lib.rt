@@ -1,11 +1,14 @@
 // Tokens of a contract text, read at a byte place.
 ghost use mathlib.Core.Path.{_≡_};
 ghost use mathlib.Core.Bool.{Bool, true};
+ghost use mathlib.Core.List.{map, flatten};
 ghost use Prim.Native.Nat.{ℕ, suc, _+_, _-_, _*_, _≤_, _<_};
 ghost use lib.ListN.{length, getD, drop};
 ghost use Rattle.reader_record.specs.Limits.{largest-constant};
-ghost use Rattle.reader_tokens.specs.Scan.{is-space, is-letter, is-digit, is-part, past, with-digit, value, capped, agree, same};
-ghost use Rattle.reader_tokens.specs.Tokens.{mark-kind, is-single, mark-at, word-kind, word-at, token-from, token-at};
+ghost use Rattle.reader_tokens.specs.Scan.{member, is-space, is-letter, is-digit, is-part, past, with-digit};
+ghost use Rattle.reader_tokens.specs.Scan.{value, capped, agree, same};
+ghost use Rattle.reader_tokens.specs.Tokens.{is-in, words, word-kind, is-single, is-pair, mark-kind};
+ghost use Rattle.reader_tokens.specs.Tokens.{mark-at, word-at, token-from, token-at};
 use reader_record::LARGEST_CONSTANT;
 
 // The kinds of token. A mark of one byte is its byte, one of two is 256 times the first and the second.
@@ -79,19 +82,30 @@ pub struct Token {
     pub end: usize,
 }
 
+// The classes of bytes that a run is made of: white space, what a name goes on with, digits.
+enum Class {
+    Space,
+    Part,
+    Digit,
+}
+
+fn is_among(b: u8, set: &[u8]) -> bool
+    ensures { λ r. ⌜ r ≡ member b (now (set .entry)) ⌝ }
+{
+    let mut i = 0;
+    while i < set.len() {
+        if b == set[i] {
+            return true;
+        }
+        i += 1;
+    }
+    false
+}
+
 fn is_space(b: u8) -> bool
     ensures { λ r. ⌜ r ≡ is-space b ⌝ }
 {
-    if b == b' ' {
-        return true;
-    }
-    if b == b'\t' {
-        return true;
-    }
-    if b == b'\r' {
-        return true;
-    }
-    b == b'\n'
+    is_among(b, b" \t\r\n")
 }
 
 fn is_letter(b: u8) -> bool
@@ -130,38 +144,23 @@ fn is_part(b: u8) -> bool
     is_digit(b)
 }
 
-fn space_end(s: &[u8], at: usize) -> usize
-    ensures { λ r. ⌜ r ≡ past is-space (now (s .entry)) at ⌝ }
+fn is_in(c: Class, b: u8) -> bool
+    ensures { λ r. ⌜ r ≡ is-in c b ⌝ }
 {
-    let mut i = at;
-    while i < s.len() {
-        if !is_space(s[i]) {
-            return i;
-        }
-        i += 1;
+    match c {
+        Class::Space => is_space(b),
+        Class::Part => is_part(b),
+        Class::Digit => is_digit(b),
     }
-    i
 }
 
-fn part_end(s: &[u8], at: usize) -> usize
-    ensures { λ r. ⌜ r ≡ past is-part (now (s .entry)) at ⌝ }
+// The first place at or after `at` whose byte is not in the class c.
+fn run_end(s: &[u8], at: usize, c: Class) -> usize
+    ensures { λ r. ⌜ r ≡ past (is-in c) (now (s .entry)) at ⌝ }
 {
     let mut i = at;
     while i < s.len() {
-        if !is_part(s[i]) {
-            return i;
-        }
-        i += 1;
-    }
-    i
-}
-
-fn digit_end(s: &[u8], at: usize) -> usize
-    ensures { λ r. ⌜ r ≡ past is-digit (now (s .entry)) at ⌝ }
-{
-    let mut i = at;
-    while i < s.len() {
-        if !is_digit(s[i]) {
+        if !is_in(c, s[i]) {
             return i;
         }
         i += 1;
@@ -203,74 +202,51 @@ pub fn is_same(s: &[u8], p: usize, m: usize, t: &[u8], q: usize, n: usize) -> bo
     agrees(s, p, t, q, m)
 }
 
-// The kind of the n bytes from p on: of a word, or of a name.
-fn word_kind(s: &[u8], p: usize, n: usize) -> usize
+// The kind of the n bytes from p on: of a word, or of a name. The words stand in one row; `lengths` says how long
+// each is.
+fn word_among(s: &[u8], p: usize, n: usize, row: &[u8], lengths: &[usize]) -> usize
+    requires { ⌜ (now row ≡ flatten words) × (now lengths ≡ map length words) ⌝ }
     ensures { λ r. ⌜ r ≡ word-kind n (drop p (now (s .entry))) ⌝ }
 {
-    if is_same(s, p, n, b"broadcast", 0, 9) {
-        return BROADCAST;
-    }
-    if is_same(s, p, n, b"chan", 0, 4) {
-        return CHAN;
-    }
-    if is_same(s, p, n, b"process", 0, 7) {
-        return PROCESS;
-    }
-    if is_same(s, p, n, b"clock", 0, 5) {
-        return CLOCK;
-    }
-    if is_same(s, p, n, b"state", 0, 5) {
-        return STATE;
-    }
-    if is_same(s, p, n, b"init", 0, 4) {
-        return INIT;
-    }
-    if is_same(s, p, n, b"trans", 0, 5) {
-        return TRANS;
-    }
-    if is_same(s, p, n, b"system", 0, 6) {
-        return SYSTEM;
-    }
-    if is_same(s, p, n, b"guard", 0, 5) {
-        return GUARD;
-    }
-    if is_same(s, p, n, b"sync", 0, 4) {
-        return SYNC;
-    }
-    if is_same(s, p, n, b"assign", 0, 6) {
-        return ASSIGN;
+    let mut i = 0;
+    let mut at = 0;
+    while i < lengths.len() {
+        let l = lengths[i];
+        if is_same(s, p, n, row, at, l) {
+            return BROADCAST + i;
+        }
+        at += l;
+        i += 1;
     }
     NAME
 }
 
+fn word_kind(s: &[u8], p: usize, n: usize) -> usize
+    ensures { λ r. ⌜ r ≡ word-kind n (drop p (now (s .entry))) ⌝ }
+{
+    let row = b"broadcastchanprocessclockstateinittranssystemguardsyncassign";
+    word_among(s, p, n, row, &[9, 4, 7, 5, 5, 4, 5, 6, 5, 4, 6])
+}
+
+// The marks of one byte.
 fn is_single(a: u8) -> bool
     ensures { λ r. ⌜ r ≡ is-single a ⌝ }
 {
-    if a == b',' {
-        return true;
+    is_among(a, b",;{}()?!=")
+}
+
+// The marks of two bytes.
+fn is_pair(a: u8, b: u8) -> bool
+    ensures { λ r. ⌜ r ≡ is-pair a b ⌝ }
+{
+    match a {
+        b'-' => b == b'>',
+        b'<' => b == b'=',
+        b'>' => b == b'=',
+        b'=' => b == b'=',
+        b'&' => b == b'&',
+        _ => false,
     }
-    if a == b';' {
-        return true;
-    }
-    if a == b'{' {
-        return true;
-    }
-    if a == b'}' {
-        return true;
-    }
-    if a == b'(' {
-        return true;
-    }
-    if a == b')' {
-        return true;
-    }
-    if a == b'?' {
-        return true;
-    }
-    if a == b'!' {
-        return true;
-    }
-    a == b'='
 }
 
 fn wide(b: u8) -> usize
@@ -279,39 +255,12 @@ fn wide(b: u8) -> usize
     b as usize
 }
 
-// The kind of the mark that starts with the byte a, before the byte b.
+// The kind of the mark that starts with the byte a, before the byte b: two bytes before one.
 fn mark_kind(a: u8, b: u8) -> usize
     ensures { λ r. ⌜ r ≡ mark-kind a b ⌝ }
 {
-    if a == b'-' {
-        if b == b'>' {
-            return ARROW;
-        }
-        return STRAY;
-    }
-    if a == b'<' {
-        if b == b'=' {
-            return AT_MOST;
-        }
-        return STRAY;
-    }
-    if a == b'>' {
-        if b == b'=' {
-            return AT_LEAST;
-        }
-        return STRAY;
-    }
-    if a == b'=' {
-        if b == b'=' {
-            return EQUAL;
-        }
-        return BECOMES;
-    }
-    if a == b'&' {
-        if b == b'&' {
-            return BOTH;
-        }
-        return STRAY;
+    if is_pair(a, b) {
+        return 256 * wide(a) + wide(b);
     }
     if is_single(a) {
         return wide(a);
@@ -353,7 +302,7 @@ fn mark_at(s: &[u8], p: usize) -> Token
 fn word_at(s: &[u8], p: usize) -> Token
     ensures { λ r. ⌜ r ≡ word-at (now (s .entry)) p ⌝ }
 {
-    let e = part_end(s, p);
+    let e = run_end(s, p, Class::Part);
     let k = word_kind(s, p, e - p);
     Token {
         kind: k,
@@ -371,7 +320,7 @@ fn token_from(s: &[u8], p: usize) -> Token
             return word_at(s, p);
         }
         if is_digit(b) {
-            let e = digit_end(s, p);
+            let e = run_end(s, p, Class::Digit);
             return Token {
                 kind: NUMERAL,
                 place: p,
@@ -391,7 +340,7 @@ fn token_from(s: &[u8], p: usize) -> Token
 pub fn token_at(s: &[u8], at: usize) -> Token
     ensures { λ r. ⌜ r ≡ token-at (now (s .entry)) at ⌝ }
 {
-    let p = space_end(s, at);
+    let p = run_end(s, at, Class::Space);
     token_from(s, p)
 }
 

@@ -3,7 +3,8 @@ use tables::CheckAnswer;
 ghost use mathlib.Core.Path.{_≡_};
 ghost use lib.ListN.{length};
 
-// Room for the largest table that the program `widest` makes, and one byte more, so that a longer file is seen to be longer.
+// Room for the largest table that the program `widest` makes, and one
+// byte more, so that a longer file is seen to be longer.
 const ROOM: usize = 262145;
 
 fn room() -> [u8; ROOM]

@@ -1,4 +1,5 @@
--- Document 01, "What a refused call returns": the table, a definition a line. Codes 1 to 11 are those of the left or only text.
+-- Document 01, "What a refused call returns": the table, a definition a
+-- line. Codes 1 to 11 are those of the left or only text.
 use Prim.Native.Nat.{ℕ, _+_, _*_}
 use Rattle.refusals.specs.declared.Refusal.{Refusal}
 

@@ -28,7 +28,8 @@ use Rattle.safe_states.specs.declared.SafeAnswer.the-variants.{Found}
 use Rattle.safe_states.specs.Outcome.{Outcome, found-outcome, kept-outcome, answered, safe-outcome}
 
 -- an accepted text and a keep that is long enough
-module _ (s k : List ℕ) (e : read-outcome s .answer ≡ read.Accepted) (long : bytes (state-count (read-outcome s .text)) ≤ length k) where
+module _ (s k : List ℕ) (e : read-outcome s .answer ≡ read.Accepted)
+    (long : bytes (state-count (read-outcome s .text)) ≤ length k) where
   abbrev pub text : Text
   text = read-outcome s .text
 
@@ -39,23 +40,31 @@ module _ (s k : List ℕ) (e : read-outcome s .answer ≡ read.Accepted) (long :
   pub succeeds : safe-outcome s k ≡ found-outcome text k
   unfolding safe-outcome answered kept-outcome
   succeeds =
-      let q : ltb (length k) (bytes (state-count (read-outcome s .text))) ≡ false = le-ltb (length k) (bytes (state-count (read-outcome s .text))) long in
+      let q : ltb (length k) (bytes (state-count (read-outcome s .text))) ≡ false =
+      le-ltb (length k) (bytes (state-count (read-outcome s .text))) long in
       rw e (rw (q, kept-outcome))
 
   -- the start as the operation answers it is safe in the text's system
-  start-same : at (safe-states text) (start-state text) ≡ finite.safe (system text accepted) (system text accepted .start)
+  start-same : at (safe-states text) (start-state text)
+      ≡ finite.safe (system text accepted) (system text accepted .start)
   start-same = unfold system in ap (λ (X : List Bool). at X (start-state text)) (safe-states-same text accepted)
 
   -- some implementation satisfies the text exactly when the operation says that the start is safe
-  pub consistent-iff : ((n : ℕ) × (safe-outcome s k .answer ≡ Found n true)) ↔ ((I : Implementation (signature text)) × Satisfies I (Meaning text accepted))
+  pub consistent-iff : ((n : ℕ) × (safe-outcome s k .answer ≡ Found n true)) ↔
+      ((I : Implementation (signature text)) × Satisfies I (Meaning text accepted))
   unfolding found-outcome
   consistent-iff = (
     λ (n, q).
-        let f : Found (ones (safe-states text)) (at (safe-states text) (start-state text)) ≡ Found n true = ap (λ (o : Outcome). o .answer) (sym succeeds) ∙ q in
+        let f : Found (ones (safe-states text)) (at (safe-states text) (start-state text)) ≡ Found n true =
+        ap (λ (o : Outcome). o .answer) (sym succeeds) ∙ q in
         let b : at (safe-states text) (start-state text) ≡ true = cc in
         text-implementable text accepted .1 (subst T (sym b ∙ start-same) tt),
     λ i.
         let h = text-implementable text accepted .0 i in
-        let b : at (safe-states text) (start-state text) ≡ true = start-same ∙ T-true (finite.safe (system text accepted) (system text accepted .start)) h in
-        (ones (safe-states text), ap (λ (o : Outcome). o .answer) succeeds ∙ ap (λ (x : Bool). Found (ones (safe-states text)) x) b),
+        let b : at (safe-states text) (start-state text) ≡ true = start-same
+        ∙ T-true (finite.safe (system text accepted) (system text accepted .start)) h in (
+          ones (safe-states text),
+          ap (λ (o : Outcome). o .answer) succeeds
+              ∙ ap (λ (x : Bool). Found (ones (safe-states text)) x) b,
+        ),
   )

@@ -57,18 +57,25 @@ module _ {t : Text} {n : ℕ} {moves holds keep : List ℕ} (R : Ready t n moves
   ready-bounded = rw (R .count) (table-bounded t (R .accepted) (R .over) moves (R .room) (R .moves-are))
 
   pub ready-bitmap : Bitmap n holds
-  ready-bitmap = rw (R .count) (bits-bitmap t (R .accepted) (R .under) holds (R .space) (R .holds-are) (length-invariants t))
+  ready-bitmap = rw (R .count) (bits-bitmap t (R .accepted) (R .under) holds (R .space) (R .holds-are)
+      (length-invariants t))
 
   pub ready-few : state-count t ≤ state-limit
   ready-few = judgement-few t (R .accepted .clean)
 
   -- what the operation on slices gives
-  pub ready-safe : (inputs : List Bool) (after : List ℕ) (r : ℕ) → inputs ≡ tab-from (input t) 0 17 → Safe-answer holds moves inputs n (t .«channel_count» + 1) keep after r
+  pub ready-safe : (inputs : List Bool) (after : List ℕ) (r : ℕ) → inputs ≡ tab-from (input t) 0 17
+      → Safe-answer holds moves inputs n (t .«channel_count» + 1) keep after r
       → (after ≡ packed (state-count t) (safe-states t) keep) × (r ≡ ones (safe-states t))
   ready-safe inputs after r e S =
-      let (a, b) = S _ (system t (R .accepted)) (rw (R .count) (table-encoded t (R .accepted) (R .over) moves (R .room) (R .moves-are) inputs e))
+      let (a, b) = S _ (system t (R .accepted)) (rw (R .count)
+      (table-encoded t (R .accepted) (R .over) moves (R .room) (R .moves-are) inputs e))
       (rw (R .count) (bits-start t (R .accepted) (R .under) holds (R .space) (R .holds-are) (length-invariants t))) in
-      rw (safe-states-same t (R .accepted)) (a ∙ ap (λ (k : ℕ). packed k (finite.safe-states (system t (R .accepted))) keep) (R .count), b)
+      rw (safe-states-same t (R .accepted)) (
+        a ∙ ap
+            (λ (k : ℕ). packed k (finite.safe-states (system t (R .accepted))) keep) (R .count),
+        b,
+      )
 
   start-in : start-state t < state-count t
   start-in = unfold system in system t (R .accepted) .start-state .0
@@ -80,7 +87,8 @@ module _ {t : Text} {n : ℕ} {moves holds keep : List ℕ} (R : Ready t n moves
     pub ready-start : (s : ℕ) → s ≡ start-state t → s / 8 < length after
     ready-start s q = omega (arith, start-in, packed-length safe-packed, R .long)
 
-    pub ready-found : (s r : ℕ) (b : Bool) → s ≡ start-state t → r ≡ ones (safe-states t) → b ≡ bit-at after s → refused (Found r b) after ≡ found-outcome t keep
+    pub ready-found : (s r : ℕ) (b : Bool) → s ≡ start-state t → r ≡ ones (safe-states t) → b ≡ bit-at after s
+        → refused (Found r b) after ≡ found-outcome t keep
     unfolding found-outcome
     ready-found s r b q c f = rw (c, f ∙ ap (bit-at after) q ∙ packed-bit safe-packed (start-state t) start-in, e)
 
@@ -104,25 +112,35 @@ module _ (s k m h : List ℕ) (r : Reading) (m′ h′ : List ℕ) (e : loading 
     states-are = ap (λ (x : Reading). x .states) reading-is ∙ read-accepted s is-accepted .states
 
     pub few-states : r .states ≤ state-limit
-    few-states = omega (arith, states-are, judgement-few (read-outcome s .text) (read-accepted s is-accepted .accepted .clean))
+    few-states = omega (
+      arith,
+      states-are,
+      judgement-few (read-outcome s .text)
+          (read-accepted s is-accepted .accepted .clean),
+    )
 
     outcome-is : safe-outcome s k ≡ kept-outcome (read-outcome s .text) k
     unfolding safe-outcome answered
     outcome-is = rw is-accepted
 
-    pub safe-short : length k < (r .states + 7) / 8 → refused (Refused (keep-too-short ((r .states + 7) / 8))) k ≡ safe-outcome s k
+    pub safe-short : length k < (r .states + 7) / 8 → refused (Refused (keep-too-short ((r .states + 7) / 8))) k
+        ≡ safe-outcome s k
     unfolding kept-outcome
     safe-short l =
-        let q : ltb (length k) (bytes (state-count (read-outcome s .text))) ≡ true = lt-ltb (length k) (bytes (state-count (read-outcome s .text))) (rw states-are at l) in
+        let q : ltb (length k) (bytes (state-count (read-outcome s .text))) ≡ true =
+        lt-ltb (length k) (bytes (state-count (read-outcome s .text))) (rw states-are at l) in
         rw (outcome-is, states-are) (rw (q, kept-outcome))
 
-    pub safe-found : (r .states + 7) / 8 ≤ length k → (o : Outcome) → o ≡ found-outcome (r .text) k → o ≡ safe-outcome s k
+    pub safe-found : (r .states + 7) / 8 ≤ length k → (o : Outcome) → o ≡ found-outcome (r .text) k → o
+        ≡ safe-outcome s k
     unfolding kept-outcome
     safe-found l o f =
-        let q : ltb (length k) (bytes (state-count (read-outcome s .text))) ≡ false = le-ltb (length k) (bytes (state-count (read-outcome s .text))) (rw states-are at l) in
+        let q : ltb (length k) (bytes (state-count (read-outcome s .text))) ≡ false =
+        le-ltb (length k) (bytes (state-count (read-outcome s .text))) (rw states-are at l) in
         f ∙ ap (λ (t : Text). found-outcome t k) text-is ∙ rw outcome-is (rw (q, kept-outcome))
 
-    pub safe-ready : table-limit ≤ length m → bytes-limit ≤ length h → (r .states + 7) / 8 ≤ length k → Ready (r .text) (r .states) m′ h′ k
+    pub safe-ready : table-limit ≤ length m → bytes-limit ≤ length h → (r .states + 7) / 8 ≤ length k
+        → Ready (r .text) (r .states) m′ h′ k
     unfolding table-size
     safe-ready l n p =
         let w = read-accepted s is-accepted .accepted in
@@ -132,7 +150,12 @@ module _ (s k m h : List ℕ) (r : Reading) (m′ h′ : List ℕ) (e : loading 
           accepted = w;
           count = refl;
           over = m;
-          room = omega (arith, l, times-bound (state-count t) (t .«channel_count» + 1) 4096 17 c (omega (arith, w .formed .channels)));
+          room = omega (
+            arith,
+            l,
+            times-bound (state-count t) (t .«channel_count» + 1) 4096 17 c
+                (omega (arith, w .formed .channels)),
+          );
           moves-are = ap (λ (x : Loading). x .moves) e ∙ load-moves s m h is-accepted;
           under = h;
           space = omega (arith, n, c);

@@ -20,7 +20,8 @@ pub enum SafeAnswer {
 // The safe states of an accepted text whose slices are filled, with a keep that is long enough.
 fn found(t: Text, n: usize, moves: &[u16], holds: &[u8], keep: &mut [u8]) -> SafeAnswer
     requires { ⌜ Ready t n (now moves) (now holds) (now keep) ⌝ }
-    ensures { λ r. ⌜ _≡_ {A = Outcome} (record { answer = r; keep = now (keep .exit) }) (found-outcome t (now (keep .entry))) ⌝ }
+    ensures { λ r. ⌜ _≡_ {A = Outcome} (record { answer = r; keep = now (keep .exit) })
+        (found-outcome t (now (keep .entry))) ⌝ }
 {
     let inputs = clocks_states::inputs_of(t);
     let steps = t.channel_count + 1;
@@ -32,7 +33,8 @@ fn found(t: Text, n: usize, moves: &[u16], holds: &[u8], keep: &mut [u8]) -> Saf
 
 // Writes the bits of the safe states into keep, state 0 in the high bit of byte 0.
 pub fn safe_states(text: &[u8], keep: &mut [u8]) -> SafeAnswer
-    ensures { λ r. ⌜ _≡_ {A = Outcome} (record { answer = r; keep = now (keep .exit) }) (safe-outcome (now (text .entry)) (now (keep .entry))) ⌝ }
+    ensures { λ r. ⌜ _≡_ {A = Outcome} (record { answer = r; keep = now (keep .exit) })
+        (safe-outcome (now (text .entry)) (now (keep .entry))) ⌝ }
 {
     let mut moves = clocks_read::no_moves();
     let mut holds = clocks_read::no_states();

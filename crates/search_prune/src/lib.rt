@@ -6,21 +6,18 @@ ghost use Rattle.clocks_bits.specs.Moves.{Bounded, no-move};
 ghost use Rattle.clocks_bits.specs.Packed.{bytes};
 ghost use Rattle.search_prune.specs.Prune.{kept-of, Pruned};
 
-// No move, in a table of moves.
-const NO_MOVE: u16 = 65535;
-
 // The move to t, if t is a state of keep.
 fn kept(keep: &[u8], t: u16) -> u16
     requires { ⌜ ((t ≡ no-move → ⊥) → t / 8 < length (now keep)) ⌝ }
     ensures { λ r. ⌜ r ≡ kept-of (bit-at (now (keep .entry))) t ⌝ }
 {
-    if t == NO_MOVE {
-        return NO_MOVE;
+    if t == clocks_bits::NO_MOVE {
+        return clocks_bits::NO_MOVE;
     }
     if clocks_bits::get(keep, t as usize) {
         return t;
     }
-    NO_MOVE
+    clocks_bits::NO_MOVE
 }
 
 // Takes away the moves that leave the states of keep, document 01's pruning of the left.

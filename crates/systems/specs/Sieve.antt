@@ -51,8 +51,8 @@ module _ (keep : List Bool → ℕ → Bool) where
   falls X = ⊎-elim (λ e. inl (sieve-same (keep X) 0 X (omega arith))) (λ l. inr l)
       (eq-or-lt-of-le (ones-sieve (keep X) 0 X))
 
-  falls-to : (X : List Bool) (n : ℕ) → (round keep (stage keep X n) ≡ stage keep X n) ⊎
-      (ones (stage keep X n) + n ≤ ones X)
+  falls-to : (X : List Bool) (n : ℕ) → (round keep (stage keep X n) ≡ stage keep X n)
+      ⊎ (ones (stage keep X n) + n ≤ ones X)
   unfolding stage
   falls-to X zero = inr (omega arith)
   falls-to X (suc n) = ⊎-elim (λ e. inl (ap (round keep) e))

@@ -63,4 +63,5 @@ pub raster-in : (keep holds lm rm : List ℕ) (n w steps ls rs : ℕ) (k : List 
 unfolding raster-answer
 raster-in keep holds lm rm n w steps ls rs k a e c s t q =
     let f = fault-at lm rm keep holds w steps k in
-    found-in f n w c s t (answer-broken (set-at w k ls rs) (table-from f w n 0) (pairs-set (set-at w k) w n) c s t (sym e ∙ q))
+    found-in f n w c s t (answer-broken (set-at w k ls rs) (table-from f w n 0) (pairs-set (set-at w k) w n) c s t
+    (sym e ∙ q))

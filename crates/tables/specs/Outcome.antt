@@ -50,13 +50,18 @@ check-compared c keep table =
     cond (ltb (length keep) needed) (record { answer = check.Refused (keep-too-short needed); keep = keep })
     (cond (not (fits (R .size) (L .size) table)) (record { answer = check.Refused other-table; keep = keep })
     (cond (not (safe L (L .start))) (record { answer = check.Refused (start-not-safe (L .start)); keep = kept })
-    (cond (not (related (L .start) (R .start))) (record { answer = check.Refused (start-pair-not-set (L .start) (R .start)); keep = kept })
+    (cond (not (related (L .start) (R .start))) (record {
+      answer = check.Refused
+          (start-pair-not-set (L .start) (R .start));
+      keep = kept;
+    })
     (record { answer = lowest; keep = kept }))))
 
 -- the whole check: codes 1 to 12 leave keep as it came
 unfoldable pub check-outcome : List ℕ → List ℕ → List ℕ → List ℕ → Checked
 check-outcome left right keep table =
-    judged-by (two-judged left right) (λ r. record { answer = check.Refused r; keep = keep }) (λ e. check-compared (compared left right e) keep table)
+    judged-by (two-judged left right) (λ r. record { answer = check.Refused r; keep = keep })
+    (λ e. check-compared (compared left right e) keep table)
 
 -- what making the widest table promises: its answer, and keep and the table afterwards
 pub record Widened : Type 0 where
@@ -68,7 +73,8 @@ pub record Widened : Type 0 where
 abbrev pub refused : Refusal → List ℕ → List ℕ → Widened
 refused r keep table = record { answer = made.Refused r; keep = keep; table = table }
 
--- Two accepted texts with equal channels: 13, 14, 17 in that order, else the widest table in front of the old bytes, whether
+-- Two accepted texts with equal channels: 13, 14, 17 in that order,
+-- else the widest table in front of the old bytes, whether
 -- or not it has the start pair.
 unfoldable pub widest-compared : {left right : List ℕ} → Compared left right → List ℕ → List ℕ → Widened
 widest-compared c keep table =
@@ -90,4 +96,5 @@ widest-compared c keep table =
 -- the whole operation: codes 1 to 12 leave everything lent as it came
 unfoldable pub widest-outcome : List ℕ → List ℕ → List ℕ → List ℕ → Widened
 widest-outcome left right keep table =
-    judged-by (two-judged left right) (λ r. refused r keep table) (λ e. widest-compared (compared left right e) keep table)
+    judged-by (two-judged left right) (λ r. refused r keep table) (λ e. widest-compared (compared left right e) keep
+    table)

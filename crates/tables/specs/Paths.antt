@@ -34,7 +34,7 @@ use Rattle.two_texts.specs.Laws.{compared}
 use Rattle.two_texts.specs.Loaded.{Loaded, Loads}
 use Rattle.two_prepare.specs.Prepared.{Prepared}
 use Rattle.two_prepare.specs.Paths.{safe-packed}
-use Rattle.two_prepare.specs.Callers.{safe-left, by-refusal, nothing-found, loaded-two, by-texts}
+use Rattle.two_prepare.specs.Callers.{safe-left, prepared-moves, by-refusal, nothing-found, loaded-two, by-texts}
 use Rattle.tables.specs.declared.CheckAnswer.{CheckAnswer}
 use Rattle.tables.specs.declared.CheckAnswer.the-variants as check
 use Rattle.tables.specs.declared.WidestAnswer.{WidestAnswer}
@@ -54,7 +54,8 @@ check-of w ls rs (told.NotAllowed s t) = check.Refused (pair-not-allowed s t)
 check-of w ls rs (told.Broken c s t) = check.Refused (rule-broken w c s t)
 
 checked-of : (w ls rs : ℕ) (b : Bool) (f : Found) (m : ℕ)
-    → check-of w ls rs (cond b (answer-of f m) told.StartNotSet) ≡ cond (not b) (check.Refused (start-pair-not-set ls rs)) (scanned w m f)
+    → check-of w ls rs (cond b (answer-of f m) told.StartNotSet) ≡ cond (not b)
+    (check.Refused (start-pair-not-set ls rs)) (scanned w m f)
 unfolding check-of answer-of scanned
 checked-of w ls rs true Passed m = refl
 checked-of w ls rs true (NotAllowedAt s t) m = refl
@@ -62,7 +63,8 @@ checked-of w ls rs true (BrokenAt c s t) m = refl
 checked-of w ls rs false f m = refl
 
 cond-record : (b : Bool) (x y : CheckAnswer) (keep : List ℕ)
-    → _≡_ {A = Checked} (record { answer = cond b x y; keep = keep }) (cond b (record { answer = x; keep = keep }) (record { answer = y; keep = keep }))
+    → _≡_ {A = Checked} (record { answer = cond b x y; keep = keep }) (cond b (record { answer = x; keep = keep })
+    (record { answer = y; keep = keep }))
 cond-record true x y keep = refl
 cond-record false x y keep = refl
 
@@ -104,55 +106,53 @@ module _ {A : Signature} (L R : Finite-system A) (keep table : List ℕ) where
       (widened (made.Made (ones pairs) (cell L R pairs (L .start) (R .start))) kept
       (table-file n w pairs ++ drop (table-bytes w n) table))))
 
-module _ {left right : List ℕ} (c : Compared left right) {lm rm lh rh : List ℕ} {t : Two} (D : Loaded c lm rm lh rh t) where
-  abbrev L : Finite-system (signature (text-of left))
-  L = left-system c
+module _ {left right : List ℕ} (c : Compared left right) {lm rm lh rh : List ℕ} {t : Two} (D : Loaded c lm rm lh rh t)
+  where
+    abbrev L : Finite-system (signature (text-of left))
+    L = left-system c
 
-  abbrev R : Finite-system (signature (text-of left))
-  R = right-system c
+    abbrev R : Finite-system (signature (text-of left))
+    R = right-system c
 
-  check-is : (keep table : List ℕ)
-      → check-compared c keep table ≡ check-by L R keep table (t .«left_states») (t .«right_states») (t .«left_start») (t .«right_start»)
-  unfolding check-compared check-by
-  check-is keep table =
-      ap (λ (x : ℕ). check-by L R keep table x (R .size) (L .start) (R .start)) (D .left-size)
-      ∙ ap (λ (x : ℕ). check-by L R keep table (t .«left_states») x (L .start) (R .start)) (D .right-size)
-      ∙ ap (λ (x : ℕ). check-by L R keep table (t .«left_states») (t .«right_states») x (R .start)) (D .left-start)
-      ∙ ap (check-by L R keep table (t .«left_states») (t .«right_states») (t .«left_start»)) (D .right-start)
+    check-is : (keep table : List ℕ)
+        → check-compared c keep table ≡ check-by L R keep table (t .«left_states») (t .«right_states») (t .«left_start»)
+        (t .«right_start»)
+    unfolding check-compared check-by
+    check-is keep table =
+        ap (λ (x : ℕ). check-by L R keep table x (R .size) (L .start) (R .start)) (D .left-size)
+        ∙ ap (λ (x : ℕ). check-by L R keep table (t .«left_states») x (L .start) (R .start)) (D .right-size)
+        ∙ ap (λ (x : ℕ). check-by L R keep table (t .«left_states») (t .«right_states») x (R .start)) (D .left-start)
+        ∙ ap (check-by L R keep table (t .«left_states») (t .«right_states») (t .«left_start»)) (D .right-start)
 
-  widest-is : (keep table : List ℕ) → widest-compared c keep table ≡ widest-by L R keep table (t .«left_states») (t .«right_states») (t .«left_start»)
-  unfolding widest-compared widest-by
-  widest-is keep table =
-      ap (λ (x : ℕ). widest-by L R keep table x (R .size) (L .start)) (D .left-size)
-      ∙ ap (λ (x : ℕ). widest-by L R keep table (t .«left_states») x (L .start)) (D .right-size)
-      ∙ ap (widest-by L R keep table (t .«left_states») (t .«right_states»)) (D .left-start)
+    widest-is : (keep table : List ℕ) → widest-compared c keep table ≡ widest-by L R keep table (t .«left_states»)
+        (t .«right_states») (t .«left_start»)
+    unfolding widest-compared widest-by
+    widest-is keep table =
+        ap (λ (x : ℕ). widest-by L R keep table x (R .size) (L .start)) (D .left-size)
+        ∙ ap (λ (x : ℕ). widest-by L R keep table (t .«left_states») x (L .start)) (D .right-size)
+        ∙ ap (widest-by L R keep table (t .«left_states») (t .«right_states»)) (D .left-start)
 
-  module _ {lm′ keep keep′ : List ℕ} {start : Bool} (P : Prepared t lh lm lm′ keep keep′ start) where
-    is-kept : keep′ ≡ packed (t .«left_states») (safe-states L) keep
-    is-kept = safe-left c D lm′ keep keep′ start P .kept
+    module _ {lm′ keep keep′ : List ℕ} {start : Bool} (P : Prepared t lh lm lm′ keep keep′ start) where
+      is-kept : keep′ ≡ packed (t .«left_states») (safe-states L) keep
+      is-kept = safe-left c D lm′ keep keep′ start P .kept
 
-    is-safe : (b : Bool) → start ≡ b → safe L (t .«left_start») ≡ b
-    is-safe b s = ap (safe L) (sym (D .left-start)) ∙ sym (safe-left c D lm′ keep keep′ start P .answer) ∙ s
+      is-safe : (b : Bool) → start ≡ b → safe L (t .«left_start») ≡ b
+      is-safe b s = ap (safe L) (sym (D .left-start)) ∙ sym (safe-left c D lm′ keep keep′ start P .answer) ∙ s
 
-    systems : bytes (t .«left_states») ≤ length keep
-        → Systems _ L R keep′ rh lm′ rm (t .«left_states») (t .«right_states») (t .steps) (t .«left_start») (t .«right_start»)
-    systems long = record {
-      moves = record {
-        left-size = D .left-size;
-        right-size = D .right-size;
-        known = D .left-encoded .known;
-        left = safe-left c D lm′ keep keep′ start P .moves-left;
-        right = D .right-encoded;
-      };
-      left-start = D .left-start;
-      right-start = D .right-start;
-      safe-bits = packed-self (safe-packed L (t .«left_states») keep keep′ (D .left-size) long is-kept);
-      true-bits = record {
-        long = length-table (t .«right_states») (R .holds);
-        room = D .right-bits .is .room;
-        is = D .right-invariants;
-      };
-    }
+      systems : bytes (t .«left_states») ≤ length keep
+          → Systems _ L R keep′ rh lm′ rm (t .«left_states») (t .«right_states») (t .steps) (t .«left_start»)
+          (t .«right_start»)
+      systems long = record {
+        moves = prepared-moves c D lm′ keep keep′ start P;
+        left-start = D .left-start;
+        right-start = D .right-start;
+        safe-bits = packed-self (safe-packed L (t .«left_states») keep keep′ (D .left-size) long is-kept);
+        true-bits = record {
+          long = length-table (t .«right_states») (R .holds);
+          room = D .right-bits .is .room;
+          is = D .right-invariants;
+        };
+      }
 
 -- the raster behind the header of a table that fits
 module _ (w n a : ℕ) (table : List ℕ) (e : a ≡ header-bytes w n) where
@@ -203,7 +203,8 @@ module _ (t : Two) (lm rm lh rh keep table : List ℕ) where
 
       pub check-scanned : (a : CheckAnswer) (r : TableAnswer) (k : List ℕ) → not start ≡ false
           → k ≡ drop (header-bytes (t .«right_states») (t .«left_states»)) table
-          → r ≡ raster-answer keep′ rh lm′ rm (t .«left_states») (t .«right_states») (t .steps) (t .«left_start») (t .«right_start») k
+          → r ≡ raster-answer keep′ rh lm′ rm (t .«left_states») (t .«right_states») (t .steps) (t .«left_start»)
+          (t .«right_start») k
           → a ≡ check-of (t .«right_states») (t .«left_start») (t .«right_start») r
           → Checks t lm rm lh rh keep table (checked a keep′)
       unfolding check-by
@@ -218,7 +219,8 @@ module _ (t : Two) (lm rm lh rh keep table : List ℕ) where
           let count = ones (denoted (t .«left_states») w raster) in
           let same : set-at w raster (L .start) (R .start) ≡ set-at w raster ls rs =
           ap (λ (x : ℕ). set-at w raster x (R .start)) (D .left-start) ∙ ap (set-at w raster ls) (D .right-start) in
-          let answered : a ≡ cond (not (set-at w raster ls rs)) (check.Refused (start-pair-not-set ls rs)) (scanned w count found) =
+          let answered : a ≡ cond (not (set-at w raster ls rs)) (check.Refused (start-pair-not-set ls rs))
+          (scanned w count found) =
           o ∙ ap (check-of w ls rs) (e ∙ ap (raster-answer keep′ rh lm′ rm (t .«left_states») w (t .steps) ls rs) q
           ∙ raster-answered L R (systems c D P long) raster
           ∙ ap (λ (x : Bool). cond x (answer-of found count) told.StartNotSet) same)
@@ -238,7 +240,8 @@ module _ (t : Two) (lm rm lh rh keep table : List ℕ) where
       let k : ltb (length keep) (bytes (t .«left_states»)) ≡ true = lt-ltb (length keep) (bytes (t .«left_states»)) h in
       rw e (rw k refl ∙ sym (widest-is c D keep table))
 
-  module _ (long : bytes (t .«left_states») ≤ length keep) (size : ℕ) (z : size ≡ table-bytes (t .«right_states») (t .«left_states»)) where
+  module _ (long : bytes (t .«left_states») ≤ length keep) (size : ℕ) (z : size
+      ≡ table-bytes (t .«right_states») (t .«left_states»)) where
     widest-long : ltb (length keep) (bytes (t .«left_states»)) ≡ false
     widest-long = le-ltb (length keep) (bytes (t .«left_states»)) long
 
@@ -246,10 +249,12 @@ module _ (t : Two) (lm rm lh rh keep table : List ℕ) where
         → Widens t lm rm lh rh keep table (widened a keep table)
     unfolding widest-by
     widest-table-short a e h left right c D =
-        let k : ltb (length table) (table-bytes (t .«right_states») (t .«left_states»)) ≡ true = lt-ltb (length table) _ (rw z at h) in
+        let k : ltb (length table) (table-bytes (t .«right_states») (t .«left_states»)) ≡ true =
+        lt-ltb (length table) _ (rw z at h) in
         rw (e, z) (rw (widest-long, k) refl ∙ sym (widest-is c D keep table))
 
-    module _ (room : size ≤ length table) (lm′ keep′ : List ℕ) (start : Bool) (P : Prepared t lh lm lm′ keep keep′ start) where
+    module _ (room : size ≤ length table) (lm′ keep′ : List ℕ) (start : Bool)
+        (P : Prepared t lh lm lm′ keep keep′ start) where
       table-long : ltb (length table) (table-bytes (t .«right_states») (t .«left_states»)) ≡ false
       table-long = le-ltb (length table) _ (rw z at room)
 
@@ -261,7 +266,8 @@ module _ (t : Two) (lm rm lh rh keep table : List ℕ) where
           (widest-is c D keep table))
 
       pub widest-made : (table′ : List ℕ) (count : ℕ) (b : Bool) → not start ≡ false
-          → Makes keep′ rh lm′ rm (t .«left_states») (t .«right_states») (t .steps) (t .«left_start») (t .«right_start») table table′ count b
+          → Makes keep′ rh lm′ rm (t .«left_states») (t .«right_states») (t .steps) (t .«left_start») (t .«right_start»)
+          table table′ count b
           → Widens t lm rm lh rh keep table (widened (made.Made count b) keep′ table′)
       unfolding widest-by
       widest-made table′ count b s M left right c D =
@@ -289,13 +295,15 @@ module _ (left right lm rm lh rh : List ℕ) (t : Two) (O : Loads left right lm 
     pub check-done : (o : Checked) → Checks t lm rm lh rh keep table o → o ≡ check-outcome left right keep table
     unfolding check-outcome
     check-done o K =
-        K left right (compared left right (nothing-found left right lm rm lh rh t O e)) (loaded-two left right lm rm lh rh t O e)
+        K left right (compared left right (nothing-found left right lm rm lh rh t O e))
+        (loaded-two left right lm rm lh rh t O e)
         ∙ by-texts left right lm rm lh rh t O e (λ r. checked (check.Refused r) keep)
         (λ e. check-compared (compared left right e) keep table)
 
     pub widest-done : (o : Widened) → Widens t lm rm lh rh keep table o → o ≡ widest-outcome left right keep table
     unfolding widest-outcome
     widest-done o K =
-        K left right (compared left right (nothing-found left right lm rm lh rh t O e)) (loaded-two left right lm rm lh rh t O e)
+        K left right (compared left right (nothing-found left right lm rm lh rh t O e))
+        (loaded-two left right lm rm lh rh t O e)
         ∙ by-texts left right lm rm lh rh t O e (λ r. refused r keep table)
         (λ e. widest-compared (compared left right e) keep table)

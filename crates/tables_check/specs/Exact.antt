@@ -34,8 +34,10 @@ and-true true = refl
 and-true false = refl
 
 -- the two rules on the moves of a pair, where an input is possible on both sides, come to one test
-same-test : (X : ℕ → ℕ → Bool) (m o : Option ℕ) (i : Bool) → (i ≡ true → (u : ℕ) × (v : ℕ) × (m ≡ some u) × (o ≡ some v))
-    → ((i ⇒ stays (λ v. lands (λ u. X u v) m) o) && (not i ⇒ stays (λ u. lands (X u) o) m)) ≡ stays (λ u. lands (X u) o) m
+same-test : (X : ℕ → ℕ → Bool) (m o : Option ℕ) (i : Bool) → (i ≡ true → (u : ℕ) × (v : ℕ) × (m ≡ some u)
+    × (o ≡ some v))
+    → ((i ⇒ stays (λ v. lands (λ u. X u v) m) o) && (not i ⇒ stays (λ u. lands (X u) o) m))
+    ≡ stays (λ u. lands (X u) o) m
 unfolding _⇒_ stays lands
 same-test X m o false h = refl
 same-test X none o true h = let (u, v, a, b) = h refl in none-some u a
@@ -66,6 +68,20 @@ least-found p i (suc n) h = go (p i) refl h (λ l. least-found p (suc i) n (omeg
         → T (p (elim b [ true ↦ i | false ↦ least p (suc i) n ]))
     go true e l ih = subst T (sym e) tt
     go false e l ih = ih l
+
+-- the least step that fails, if one does, and each step is fine if none does
+module _ (lm rm : List ℕ) (w steps : ℕ) (k : List ℕ) (s t : ℕ) where
+  pub first-bad-fails : first-bad lm rm w steps k s t < steps
+      → T (fails-at lm rm w steps k s t (first-bad lm rm w steps k s t))
+  unfolding first-bad
+  first-bad-fails h = least-found (fails-at lm rm w steps k s t) 0 steps (omega arith)
+
+  pub first-bad-none : steps ≤ first-bad lm rm w steps k s t → (c : ℕ) → c < steps
+      → T (ok-of w k (getD lm (s * steps + c) 0) (getD rm (t * steps + c) 0))
+  unfolding first-bad fails-at
+  first-bad-none h c l = ⊎-elim (λ a. a) (λ b. absurd
+      (omega (arith, least-passes (fails-at lm rm w steps k s t) 0 steps c (omega arith) (omega arith) b .1)))
+      (T-dec (ok-of w k (getD lm (s * steps + c) 0) (getD rm (t * steps + c) 0)))
 
 not-fine : (c : ℕ) → Broken c ≡ Fine → ⊥
 not-fine c e = let z : _≡_ {A = ℕ} 0 1 = cc in omega arith
@@ -199,17 +215,20 @@ pub scan-passes : (f : ℕ → ℕ → Fault) (n w : ℕ) → (table-from f w n 
 scan-passes f n w = (
   λ e. ⊎-elim (λ p. p .1) (λ low. absurd
       (picked-stops (f (low .s) (low .t)) (low .s) (low .t) (low .fails) (sym (low .named) ∙ e))) (scan-told f n w),
-  λ all. ⊎-elim (λ p. p .0) (λ low. absurd (low .fails (all (low .s) (low .t) (low .row-in) (low .column-in)))) (scan-told f n w),
+  λ all. ⊎-elim (λ p. p .0) (λ low. absurd (low .fails (all (low .s) (low .t) (low .row-in) (low .column-in))))
+      (scan-told f n w),
 )
 
 -- the fault of a pair and the test of it
 module _ {A : Signature} (L R : Finite-system A) (X : ℕ → ℕ → Bool) where
   pub pair-fine : (s t : ℕ) → pair-fault L R X s t ≡ Fine ↔ T (entry-ok L R X s t)
   unfolding pair-fault entry-ok least-broken breaks pair-ok _⇒_
-  pair-fine s t = go (X s t) (safe L s && R .holds t) (step-fine (step-ok A (pruned L) (R .next) X s t) (suc (A .channels)))
+  pair-fine s t = go (X s t) (safe L s && R .holds t) (step-fine (step-ok A (pruned L) (R .next) X s t)
+      (suc (A .channels)))
     where
       broken : Fault
-      broken = step-fault (suc (A .channels)) (least (λ c. not (step-ok A (pruned L) (R .next) X s t c)) 0 (suc (A .channels)))
+      broken = step-fault (suc (A .channels)) (least (λ c. not (step-ok A (pruned L) (R .next) X s t c)) 0
+          (suc (A .channels)))
 
       go : (x y : Bool) → (broken ≡ Fine ↔ T (all (suc (A .channels)) (step-ok A (pruned L) (R .next) X s t)))
           → cond x (cond y broken NotAllowed) Fine ≡ Fine ↔ T
@@ -289,7 +308,8 @@ module _ {A : Signature} (L R : Finite-system A) (k : List ℕ) {keep holds lm r
   fails-same s t hs ht a b c hc = ap not
       (ap (λ (o : Option ℕ). stays (λ x. lands (set-at w k x) (decode (getD rm (t * steps + c) 0))) o)
       (sym (G .moves .left .move s c hs hc))
-      ∙ ap (λ (o : Option ℕ). stays (λ x. lands (set-at w k x) o) (pruned L s c)) (sym (G .moves .right .move t c ht hc))
+      ∙ ap (λ (o : Option ℕ). stays (λ x. lands (set-at w k x) o) (pruned L s c))
+      (sym (G .moves .right .move t c ht hc))
       ∙ sym (step-same L R (set-at w k) s t c a (omega (arith, G .moves .right-size), b)))
 
   fault-same : (s t : ℕ) → s < n → t < w → fault-at lm rm keep holds w steps k s t ≡ pair-fault L R (set-at w k) s t

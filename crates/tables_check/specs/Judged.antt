@@ -1,4 +1,5 @@
--- What document 01 says of a table's pairs, by the systems: 19, then 20 with the least step; the lowest pair by row, then column.
+-- What document 01 says of a table's pairs, by the systems: 19, then 20
+-- with the least step; the lowest pair by row, then column.
 use mathlib.Core.Path.{_≡_}
 use mathlib.Core.Bool.{Bool, not, _&&_, cond}
 use Prim.Native.Nat.{ℕ, suc, _<_}

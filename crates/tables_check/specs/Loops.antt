@@ -34,7 +34,8 @@ module _ (f : ℕ → ℕ → Fault) (w : ℕ) where
   unfolding row-from
   row-done s t rest h = let m : w - t ≡ 0 = omega arith in rw m
 
-  pub table-step : (n s : ℕ) → s < n → table-from f w (n - s) s ≡ row-from f s (w - 0) 0 (table-from f w (n - (s + 1)) (s + 1))
+  pub table-step : (n s : ℕ) → s < n → table-from f w (n - s) s ≡ row-from f s (w - 0) 0
+      (table-from f w (n - (s + 1)) (s + 1))
   unfolding table-from
   table-step n s h = let m : n - s ≡ suc (n - (s + 1)) = omega arith in let z : w - 0 ≡ w = omega arith in rw (m, z)
 

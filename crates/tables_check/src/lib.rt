@@ -21,20 +21,21 @@ pub enum Found {
 }
 
 fn step_ok(raster: &[u8], n: usize, w: usize, u: usize, v: usize) -> bool
-    requires { ⌜ (n ≤ most-states) × ((w ≤ most-states) × (((u ≡ no-move → ⊥) → u < n) × (((v ≡ no-move → ⊥) → v < w) × (n * bytes w ≤ length (now raster))))) ⌝ }
+    requires { ⌜ (n ≤ most-states) × ((w ≤ most-states) × (((u ≡ no-move → ⊥) → u < n)
+        × (((v ≡ no-move → ⊥) → v < w) × (n * bytes w ≤ length (now raster))))) ⌝ }
     ensures { λ r. ⌜ r ≡ ok-of w (now (raster .entry)) u v ⌝ }
 {
-    if u == tables_rows::NO_MOVE {
+    if u == clocks_bits::NO_TARGET {
         return true;
     }
-    if v == tables_rows::NO_MOVE {
+    if v == clocks_bits::NO_TARGET {
         return false;
     }
     tables_rows::is_set(raster, n, w, u, v)
 }
 
 // The least step at which the pair (s, t) breaks a rule, `steps` if there is none.
-fn first_bad(
+pub fn first_bad(
     raster: &[u8],
     lm: &[u16],
     rm: &[u16],
@@ -44,7 +45,8 @@ fn first_bad(
     s: usize,
     t: usize,
 ) -> usize
-    requires { ⌜ Bounded n steps (now lm) × (Bounded w steps (now rm) × ((s < n) × ((t < w) × (n * bytes w ≤ length (now raster))))) ⌝ }
+    requires { ⌜ Bounded n steps (now lm) × (Bounded w steps (now rm) ×
+        ((s < n) × ((t < w) × (n * bytes w ≤ length (now raster))))) ⌝ }
     ensures { λ r. ⌜ r ≡ first-bad (now (lm .entry)) (now (rm .entry)) w steps (now (raster .entry)) s t ⌝ }
 {
     let a = s * steps;
@@ -75,8 +77,12 @@ fn fault_at(
     s: usize,
     t: usize,
 ) -> Fault
-    requires { ⌜ Bounded n steps (now lm) × (Bounded w steps (now rm) × ((s < n) × ((t < w) × ((n * bytes w ≤ length (now raster)) × ((bytes n ≤ length (now keep)) × ((bytes w ≤ length (now holds)) × ((bytes w ≤ length (now row)) × (now row ≡ part (bytes w) s (now raster))))))))) ⌝ }
-    ensures { λ r. ⌜ r ≡ fault-at (now (lm .entry)) (now (rm .entry)) (now (keep .entry)) (now (holds .entry)) w steps (now (raster .entry)) s t ⌝ }
+    requires { ⌜ Bounded n steps (now lm) × (Bounded w steps (now rm) ×
+        ((s < n) × ((t < w) × ((n * bytes w ≤ length (now raster)) × ((bytes n ≤ length (now keep))
+        × ((bytes w ≤ length (now holds)) × ((bytes w ≤ length (now row))
+        × (now row ≡ part (bytes w) s (now raster))))))))) ⌝ }
+    ensures { λ r. ⌜ r ≡ fault-at (now (lm .entry)) (now (rm .entry)) (now (keep .entry)) (now (holds .entry)) w steps
+        (now (raster .entry)) s t ⌝ }
 {
     if !clocks_bits::get(row, t) {
         return Fault::Fine;
@@ -105,8 +111,10 @@ pub fn scan(
     w: usize,
     steps: usize,
 ) -> Found
-    requires { ⌜ Bounded n steps (now lm) × (Bounded w steps (now rm) × ((n * bytes w ≤ length (now raster)) × ((bytes n ≤ length (now keep)) × (bytes w ≤ length (now holds))))) ⌝ }
-    ensures { λ r. ⌜ r ≡ table-from (fault-at (now (lm .entry)) (now (rm .entry)) (now (keep .entry)) (now (holds .entry)) w steps (now (raster .entry))) w n 0 ⌝ }
+    requires { ⌜ Bounded n steps (now lm) × (Bounded w steps (now rm) ×
+        ((n * bytes w ≤ length (now raster)) × ((bytes n ≤ length (now keep)) × (bytes w ≤ length (now holds))))) ⌝ }
+    ensures { λ r. ⌜ r ≡ table-from (fault-at (now (lm .entry)) (now (rm .entry)) (now (keep .entry))
+        (now (holds .entry)) w steps (now (raster .entry))) w n 0 ⌝ }
 {
     let b = (w + 7) / 8;
     let mut s: usize = 0;

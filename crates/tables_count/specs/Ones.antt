@@ -63,7 +63,8 @@ unfolding pairs-set passing
 pairs-passing f w zero = let e : 0 * w ≡ 0 = omega arith in rw e
 pairs-passing f w (suc n) =
     let e : suc n * w ≡ n * w + w = omega (arith, add-mul n 1 w) in
-    let row = passing-same (λ j. f ((n * w + j) / w) ((n * w + j) % w)) (f n) w (λ j h. rw (digits-div n h, digits-mod n h)) in
+    let row = passing-same (λ j. f ((n * w + j) / w) ((n * w + j) % w)) (f n) w
+    (λ j h. rw (digits-div n h, digits-mod n h)) in
     rw e (omega (arith, pairs-passing f w n, passing-split (λ p. f (p / w) (p % w)) (n * w) w))
 
 -- the number of pairs set, padding not counted
@@ -88,5 +89,6 @@ denoted-raster {n} {w} {X} {d} {k} wide R =
         ∙ row-at w X (p / w) (p % w) t
         ∙ ap (at X) (div-add-mod' p w)
 
-pub pairs-raster : {n w : ℕ} {X : List Bool} {d k : List ℕ} → 0 < w → Raster n w X d k → pairs-set (set-at w k) w n ≡ ones X
+pub pairs-raster : {n w : ℕ} {X : List Bool} {d k : List ℕ} → 0 < w → Raster n w X d k → pairs-set (set-at w k) w n
+    ≡ ones X
 pairs-raster {n} {w} {X} {d} {k} wide R = pairs-ones n w k ∙ ap ones (denoted-raster wide R)

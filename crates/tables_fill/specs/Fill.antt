@@ -17,4 +17,5 @@ fills n w K H s = table (n * w) (filled w K H s)
 
 -- what filling promises: the first s rows are filled
 abbrev pub Filling : ℕ → ℕ → List ℕ → List ℕ → ℕ → List ℕ → List ℕ → Type 0
-Filling n w keep holds s d k = (Y : List Bool) → Packed w Y holds holds → Raster n w (fills n w (bit-at keep) (at Y) s) d k
+Filling n w keep holds s d k = (Y : List Bool) → Packed w Y holds holds
+    → Raster n w (fills n w (bit-at keep) (at Y) s) d k

@@ -86,11 +86,14 @@ module _ (n w : ℕ) (K H : ℕ → Bool) where
       (written (λ i. getD holds i 0) (bytes w) (midOf (s * bytes w) (s * bytes w + bytes w - s * bytes w) k)))
   fill-more {d} {k} holds Y P y s h e R =
       let bs : s * bytes w + bytes w - s * bytes w ≡ bytes w = omega arith in
-      let lp : length (part (bytes w) s k) ≡ bytes w = part-length n (bytes w) k s (omega (arith, R .room, R .sized)) h in
+      let lp : length (part (bytes w) s k) ≡ bytes w = part-length n (bytes w) k s (omega (arith, R .room, R .sized)) h
+      in
       let new = written (λ i. getD holds i 0) (bytes w) (part (bytes w) s k) in
-      let is : new ≡ packed w Y (part (bytes w) s k) = packed-copy w Y holds (part (bytes w) s k) (omega arith) (P .is) in
+      let is : new ≡ packed w Y (part (bytes w) s k) = packed-copy w Y holds (part (bytes w) s k) (omega arith) (P .is)
+      in
       let Q : Packed w Y new new = packed-self (record { long = P .long; room = omega arith; is = is }) in
-      let ln : length new ≡ bytes w = written-length (λ i. getD holds i 0) (bytes w) (part (bytes w) s k) (omega arith) ∙ lp in
+      let ln : length new ≡ bytes w = written-length (λ i. getD holds i 0) (bytes w) (part (bytes w) s k) (omega arith)
+      ∙ lp in
       rw bs (raster-put R s h (fills n w K H (s + 1)) new (length-table (n * w) _)
       (subst (λ (Z : List Bool). Packed w Z new new) (sym (fills-row Y (P .long) y s h e)) Q) ln
       (λ i l f. row-same s i l f))
@@ -100,7 +103,8 @@ module _ (n w : ℕ) (K H : ℕ → Bool) where
   zero-byte i = refl
 
   -- all zero: nothing filled yet
-  pub fill-none : (d : List ℕ) → n * bytes w ≤ length d → Raster n w (fills n w K H 0) d (written (λ i. 0) (n * bytes w) d)
+  pub fill-none : (d : List ℕ) → n * bytes w ≤ length d
+      → Raster n w (fills n w K H 0) d (written (λ i. 0) (n * bytes w) d)
   unfolding packed
   fill-none d h =
       let k = written (λ i. 0) (n * bytes w) d in

@@ -7,21 +7,12 @@ ghost use Rattle.clocks_bits.specs.Packed.{bytes};
 ghost use Rattle.tables_fill.specs.Fill.{Filling};
 ghost use Rattle.clocks_bits.specs.Moves.{most-states};
 
-fn zero(s: &mut [u8], n: usize)
-    requires { ⌜ n ≤ length (now s) ⌝ }
-    ensures { λ _. ⌜ now (s .exit) ≡ written (λ (i : ℕ). 0) n (now (s .entry)) ⌝ }
-{
-    let mut i: usize = 0;
-    while i < n {
-        s[i] = 0;
-        i += 1;
-    }
-}
-
 // Row s is the right's bitmap if the left's bit s is set, and stays empty if not.
 fn fill_row(raster: &mut [u8], keep: &[u8], holds: &[u8], n: usize, w: usize, s: usize)
-    requires { ⌜ (n ≤ most-states) × ((w ≤ most-states) × ((s < n) × ((bytes n ≤ length (now keep)) × ((bytes w ≤ length (now holds)) × (n * bytes w ≤ length (now raster)))))) ⌝ }
-    ensures { λ _. ⌜ ((d : List ℕ) → Filling n w (now (keep .entry)) (now (holds .entry)) s d (now (raster .entry)) → Filling n w (now (keep .entry)) (now (holds .entry)) (s + 1) d (now (raster .exit))) ⌝ }
+    requires { ⌜ (n ≤ most-states) × ((w ≤ most-states) × ((s < n) × ((bytes n ≤ length (now keep))
+        × ((bytes w ≤ length (now holds)) × (n * bytes w ≤ length (now raster)))))) ⌝ }
+    ensures { λ _. ⌜ ((d : List ℕ) → Filling n w (now (keep .entry)) (now (holds .entry)) s d (now (raster .entry))
+        → Filling n w (now (keep .entry)) (now (holds .entry)) (s + 1) d (now (raster .exit))) ⌝ }
 {
     if !clocks_bits::get(keep, s) {
         return;
@@ -34,12 +25,13 @@ fn fill_row(raster: &mut [u8], keep: &[u8], holds: &[u8], n: usize, w: usize, s:
 
 // Fills a raster with the pairs of the left's and the right's bitmap.
 pub fn fill(raster: &mut [u8], keep: &[u8], holds: &[u8], n: usize, w: usize)
-    requires { ⌜ (n ≤ most-states) × ((w ≤ most-states) × ((bytes n ≤ length (now keep)) × ((bytes w ≤ length (now holds)) × (n * bytes w ≤ length (now raster))))) ⌝ }
+    requires { ⌜ (n ≤ most-states) × ((w ≤ most-states) × ((bytes n ≤ length (now keep))
+        × ((bytes w ≤ length (now holds)) × (n * bytes w ≤ length (now raster))))) ⌝ }
     ensures { λ _. ⌜ Filling n w (now (keep .entry)) (now (holds .entry)) n (now (raster .entry)) (now (raster .exit)) ⌝ }
 {
     let b = (w + 7) / 8;
     let all = n * b;
-    zero(raster, all);
+    clocks_bits::fill(raster, all, 0);
     let mut s: usize = 0;
     while s < n {
         fill_row(raster, keep, holds, n, w, s);

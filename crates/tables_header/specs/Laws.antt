@@ -92,7 +92,8 @@ decimal-last n i h = ⊎-elim one more (less n 10)
         ∙ ap (λ (x : ℕ). getD (decimal (n / 10) ++ (digit (n % 10) ∷ [])) x 0) e
         ∙ getD-append-add (decimal (n / 10)) (digit (n % 10) ∷ []) 0 0
 
-pub decimal-front : (n i : ℕ) → 10 ≤ n → i < length (decimal (n / 10)) → getD (decimal n) i 0 ≡ getD (decimal (n / 10)) i 0
+pub decimal-front : (n i : ℕ) → 10 ≤ n → i < length (decimal (n / 10)) → getD (decimal n) i 0
+    ≡ getD (decimal (n / 10)) i 0
 decimal-front n i a h = ap (λ (x : List ℕ). getD x i 0) (decimal-more n a)
     ∙ List·getD-append (decimal (n / 10)) (digit (n % 10) ∷ []) 0 i h
 
@@ -120,8 +121,10 @@ module _ (w h : ℕ) where
       ∙ header-past (i - 3)
       ∙ List·getD-append (decimal w) (ascii " " ++ (decimal h ++ ascii "\n")) 0 (i - 3) (omega arith)
 
-  after-width : (j : ℕ) → getD (header w h) (3 + (length (decimal w) + j)) 0 ≡ getD (ascii " " ++ (decimal h ++ ascii "\n")) j 0
-  after-width j = header-past (length (decimal w) + j) ∙ getD-append-add (decimal w) (ascii " " ++ (decimal h ++ ascii "\n")) j 0
+  after-width : (j : ℕ) → getD (header w h) (3 + (length (decimal w) + j)) 0
+      ≡ getD (ascii " " ++ (decimal h ++ ascii "\n")) j 0
+  after-width j = header-past (length (decimal w) + j)
+      ∙ getD-append-add (decimal w) (ascii " " ++ (decimal h ++ ascii "\n")) j 0
 
   pub header-space : (i : ℕ) → i ≡ 3 + length (decimal w) → getD (header w h) i 0 ≡ getD (ascii " ") 0 0
   header-space i k = let e : i ≡ 3 + (length (decimal w) + 0) = omega arith in
@@ -130,7 +133,8 @@ module _ (w h : ℕ) where
   after-space : (j : ℕ) → getD (header w h) (4 + length (decimal w) + j) 0 ≡ getD (decimal h ++ ascii "\n") j 0
   after-space j =
       let e : 4 + length (decimal w) + j ≡ 3 + (length (decimal w) + (1 + j)) = omega arith in
-      ap (λ (x : ℕ). getD (header w h) x 0) e ∙ after-width (1 + j) ∙ getD-append-add (ascii " ") (decimal h ++ ascii "\n") j 0
+      ap (λ (x : ℕ). getD (header w h) x 0) e ∙ after-width (1 + j)
+      ∙ getD-append-add (ascii " ") (decimal h ++ ascii "\n") j 0
 
   pub header-height : (i : ℕ) → 4 + length (decimal w) ≤ i → i - (4 + length (decimal w)) < length (decimal h)
       → getD (header w h) i 0 ≡ getD (decimal h) (i - (4 + length (decimal w))) 0
@@ -140,16 +144,19 @@ module _ (w h : ℕ) where
       ∙ after-space (i - (4 + length (decimal w)))
       ∙ List·getD-append (decimal h) (ascii "\n") 0 (i - (4 + length (decimal w))) l
 
-  pub header-end : (i : ℕ) → i ≡ 4 + length (decimal w) + length (decimal h) → getD (header w h) i 0 ≡ getD (ascii "\n") 0 0
+  pub header-end : (i : ℕ) → i ≡ 4 + length (decimal w) + length (decimal h) → getD (header w h) i 0
+      ≡ getD (ascii "\n") 0 0
   header-end i k =
       let e : i ≡ 4 + length (decimal w) + (length (decimal h) + 0) = omega arith in
-      ap (λ (x : ℕ). getD (header w h) x 0) e ∙ after-space (length (decimal h) + 0) ∙ getD-append-add (decimal h) (ascii "\n") 0 0
+      ap (λ (x : ℕ). getD (header w h) x 0) e ∙ after-space (length (decimal h) + 0)
+      ∙ getD-append-add (decimal h) (ascii "\n") 0 0
 
 pub bytes-few : (w : ℕ) → w ≤ most-states → bytes w ≤ 512
 bytes-few w h = omega arith
 
 -- a list written at the front of another
-pub written-list : (p d : List ℕ) → length p ≤ length d → written (λ i. getD p i 0) (length p) d ≡ p ++ drop (length p) d
+pub written-list : (p d : List ℕ) → length p ≤ length d → written (λ i. getD p i 0) (length p) d ≡ p
+    ++ drop (length p) d
 written-list p d l =
     sym (written-is (λ i. getD p i 0) (length p) (p ++ drop (length p) d) d l
     (length-append p (drop (length p) d) ∙ simp length-drop (omega arith))
@@ -203,10 +210,15 @@ begins-back [] t = tt
 begins-back (b ∷ p) t = and-T (eqb b b) (begins p (p ++ t)) (eqb-refl b) (begins-back p t)
 
 pub begins-iff : (p t : List ℕ) → T (begins p t) ↔ (t ≡ p ++ drop (length p) t)
-begins-iff p t = (begins-forth p t, λ e. subst (λ (x : List ℕ). T (begins p x)) (sym e) (begins-back p (drop (length p) t)))
+begins-iff p t = (
+  begins-forth p t,
+  λ e. subst (λ (x : List ℕ). T (begins p x)) (sym e)
+      (begins-back p (drop (length p) t)),
+)
 
 -- a table that fits is the header and a raster of the right length
-pub fits-iff : (w h : ℕ) (t : List ℕ) → T (fits w h t) ↔ ((r : List ℕ) × (length r ≡ raster-bytes w h) × (t ≡ header w h ++ r))
+pub fits-iff : (w h : ℕ) (t : List ℕ) → T (fits w h t) ↔
+    ((r : List ℕ) × (length r ≡ raster-bytes w h) × (t ≡ header w h ++ r))
 unfolding fits table-bytes header-bytes
 fits-iff w h t = (forth, back)
   where
@@ -221,7 +233,8 @@ fits-iff w h t = (forth, back)
     back : (r : List ℕ) × (length r ≡ raster-bytes w h) × (t ≡ header w h ++ r)
         → T (begins (header w h) t && eqb (length t) (length (header w h) + raster-bytes w h))
     back (r, l, e) =
-        let n : length t ≡ length (header w h) + raster-bytes w h = ap length e ∙ length-append (header w h) r ∙ omega arith in
+        let n : length t ≡ length (header w h) + raster-bytes w h = ap length e ∙ length-append (header w h) r
+        ∙ omega arith in
         and-T (begins (header w h) t) (eqb (length t) (length (header w h) + raster-bytes w h))
         (subst (λ (x : List ℕ). T (begins (header w h) x)) (sym e) (begins-back (header w h) r))
         (subst (λ (x : ℕ). T (eqb x (length (header w h) + raster-bytes w h))) (sym n)

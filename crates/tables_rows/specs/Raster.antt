@@ -1,10 +1,10 @@
 -- A raster: the rows of a table of n times w entries, each in whole bytes, padding 0.
 use mathlib.Core.Path.{_≡_}
-use mathlib.Core.Bool.{Bool, false, not, _&&_}
+use mathlib.Core.Bool.{Bool, _&&_, cond}
 use mathlib.Core.List.{List, _++_}
-use Prim.Native.Nat.{ℕ, _+_, _-_, _*_, _/_, _%_, _≤_, _<_}
-use lib.Dec.{ltb}
-use lib.ListN.{length, getD, take, drop}
+use Prim.Native.Nat.{ℕ, _+_, _-_, _*_, _/_, _%_, _^_, _≤_, _<_}
+use lib.Dec.{eqb, ltb}
+use lib.ListN.{length, getD, set, take, drop}
 use Rattle.systems.specs.Tests.{at, table}
 use Rattle.clocks_bits.specs.Bits.{bit-at, byte-of, tab-from}
 use Rattle.clocks_bits.specs.Packed.{Packed, bytes}
@@ -18,6 +18,14 @@ row w X s = take w (drop (s * w) X)
 -- bit t of row s of a raster: the pair (s, t) is related
 abbrev pub set-at : ℕ → List ℕ → ℕ → ℕ → Bool
 set-at w k s t = bit-at (part (bytes w) s k) t
+
+-- the column before t in row s, or the first of its byte if the byte is 0: no pair between is set
+unfoldable pub column-below : ℕ → List ℕ → ℕ → ℕ → ℕ
+column-below w k s t = cond (eqb (getD k (s * bytes w + (t - 1) / 8) 0) 0) ((t - 1) / 8 * 8) (t - 1)
+
+-- the raster without the pair (s, t), which is set: its bit taken away
+unfoldable pub without : ℕ → List ℕ → ℕ → ℕ → List ℕ
+without w k s t = let i = s * bytes w + t / 8 in set k i (getD k i 0 - 2 ^ (7 - t % 8))
 
 -- the table that a raster denotes, padding not read
 unfoldable pub denoted : ℕ → ℕ → List ℕ → List Bool
@@ -41,3 +49,8 @@ pub record Raster (n w : ℕ) (X : List Bool) (d k : List ℕ) : Type 0 where
   pub sized : length k ≡ length d
   pub rows : (s : ℕ) → s < n → Packed w (row w X s) (part (bytes w) s k) (part (bytes w) s k)
   pub past : (i : ℕ) → n * bytes w ≤ i → getD k i 0 ≡ getD d i 0
+
+-- a raster of some table
+pub record Table (n w : ℕ) (k : List ℕ) : Type 0 where
+  pub entries : List Bool
+  pub is : Raster n w entries k k

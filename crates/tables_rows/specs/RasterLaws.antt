@@ -1,35 +1,82 @@
--- Laws of rasters: their rows as parts, a row put back.
-use mathlib.Core.Path.{_≡_, refl, sym, ap, _∙_}
-use mathlib.Core.Logic.{_⊎_, ⊎-elim, _≢_}
-use mathlib.Core.Bool.{Bool, false}
+-- Laws of rasters: their rows as parts, a row put back, a pair taken out.
+use mathlib.Core.Path.{_≡_, refl, sym, subst, ap, _∙_}
+use mathlib.Core.Logic.{⊎-elim, _≢_}
+use mathlib.Core.Bool.{Bool, true, false, cond}
 use mathlib.Core.List.{List, _++_}
-use Prim.Native.Nat.{ℕ, _+_, _-_, _*_, _/_, _%_, _≤_, _<_}
-use native.Mathlib.Nat.{mul-le-mul-right, add-mul, div-add-mod', mod-lt, div-lt-iff-lt-mul}
+use Prim.Native.Nat.{ℕ, _+_, _-_, _*_, _/_, _%_, _^_, _≤_, _<_}
+use native.Mathlib.Nat.{zero-div, mul-le-mul-right, add-mul, div-add-mod', mod-lt, div-lt-iff-lt-mul}
 use native.Mathlib.Decide.{ℕ-discrete}
 use native.Mathlib.Omega.{arith}
+use lib.Dec.{T, eqb, eqb→eq}
 use lib.Arith.{digits-lt, digits-div, digits-mod}
 use borrow.Author.Tests.{lt-ltb, le-ltb}
-use lib.ListN.{length, getD, take, drop, length-append, length-drop, List·getD-append, List·getD-eq-default}
-use lib.Seq.{ext-getD, getD-take, getD-drop, length-take-le, getD-append-add}
+use lib.ListN.{length, getD, set, take, drop, length-append, length-drop, length-set, List·getD-append, List·getD-eq-default}
+use lib.Seq.{ext-getD, getD-take, getD-drop, length-take-le, getD-append-add, getD-set-other, take-set-lt, take-set-le, drop-set-lt, drop-set-add}
 use Rattle.systems.specs.Tests.{at, table}
-use Rattle.clocks_bits.specs.Bits.{byte-of, byte-same, written, written-is, written-at, written-past, written-length, less}
-use Rattle.clocks_bits.specs.Packed.{Packed, packed, bytes}
-use Rattle.tables_rows.specs.Raster.{Raster, in-row, part, raster, raster-of, row}
+use Rattle.clocks_bits.specs.Bits.{bit-at, byte-of, byte-same, written, written-is, written-at, written-past, written-length, less}
+use Rattle.clocks_bits.specs.Moves.{most-states}
+use Rattle.clocks_bits.specs.Packed.{Packed, packed, packed-bit, packed-clear, packed-self, bytes}
+use Rattle.tables_rows.specs.Raster.{Raster, in-row, part, raster, raster-of, row, set-at, column-below, without}
 
-row-room : (n b s : ℕ) → s < n → s * b + b ≤ n * b
-row-room n b s h = omega (arith, mul-le-mul-right b (let q : s + 1 ≤ n = omega arith in q), add-mul s 1 b)
+-- a row's end, in entries or in bytes
+pub row-end : (n b s : ℕ) → s < n → s * b + b ≤ n * b
+row-end n b s h = omega (arith, mul-le-mul-right b (let q : s + 1 ≤ n = omega arith in q), add-mul s 1 b)
+
+pub row-few : (n w s : ℕ) → n ≤ most-states → w ≤ most-states → s < n → s * bytes w + bytes w ≤ 2097152
+row-few n w s h k l = omega (arith, row-end n (bytes w) s l, mul-le-mul-right (bytes w) h, few (bytes w) (omega arith))
+  where
+    few : (b : ℕ) → b ≤ 512 → 4096 * b ≤ 2097152
+    few b q = omega arith
 
 pub part-length : (n b : ℕ) (k : List ℕ) (s : ℕ) → n * b ≤ length k → s < n → length (part b s k) ≡ b
-part-length n b k s h l = length-take-le b (drop (s * b) k) (rw (length-drop (s * b) k) (omega (arith, row-room n b s l)))
+part-length n b k s h l = length-take-le b (drop (s * b) k) (rw (length-drop (s * b) k)
+    (omega (arith, row-end n b s l)))
 
 pub row-length : (n w : ℕ) (X : List Bool) (s : ℕ) → length X ≡ n * w → s < n → length (row w X s) ≡ w
-row-length n w X s h l = length-take-le w (drop (s * w) X) (rw (length-drop (s * w) X) (omega (arith, row-room n w s l)))
+row-length n w X s h l = length-take-le w (drop (s * w) X) (rw (length-drop (s * w) X)
+    (omega (arith, row-end n w s l)))
 
 pub part-at : (b : ℕ) (k : List ℕ) (s i : ℕ) → i < b → getD (part b s k) i 0 ≡ getD k (s * b + i) 0
 part-at b k s i h = getD-take b (drop (s * b) k) i 0 h ∙ getD-drop (s * b) k i 0
 
 pub row-at : (w : ℕ) (X : List Bool) (s t : ℕ) → t < w → at (row w X s) t ≡ at X (s * w + t)
 row-at w X s t h = getD-take w (drop (s * w) X) t false h ∙ getD-drop (s * w) X t false
+
+-- the pair (s, t) among all bits, bit i: it is in byte t / 8 of row s
+module _ (w : ℕ) (k : List ℕ) (s t i : ℕ) (place : i ≡ 8 * (s * bytes w) + t) where
+  in-byte : i / 8 ≡ s * bytes w + t / 8
+  in-byte = omega arith
+
+  at-bit : i % 8 ≡ t % 8
+  at-bit = omega arith
+
+  pub place-bit : t < w → bit-at k i ≡ set-at w k s t
+  unfolding bit-at
+  place-bit h = let inside : t / 8 < bytes w = omega arith in
+      rw (in-byte, at-bit, part-at (bytes w) k s (t / 8) inside)
+
+  pub place-without : set k (i / 8) (getD k (i / 8) 0 - 2 ^ (7 - i % 8)) ≡ without w k s t
+  unfolding without
+  place-without = rw (in-byte, at-bit)
+
+-- the next column below t: those between are not set
+module _ (w : ℕ) (k : List ℕ) (s t : ℕ) (some : 0 < t) (inside : t ≤ w) where
+  byte : ℕ
+  byte = getD k (s * bytes w + (t - 1) / 8) 0
+
+  unset : byte ≡ 0 → (j : ℕ) → j / 8 ≡ (t - 1) / 8 → set-at w k s j ≡ false
+  unfolding bit-at byte
+  unset z j e = let l : (t - 1) / 8 < bytes w = omega arith in
+      rw (e, part-at (bytes w) k s ((t - 1) / 8) l, z, zero-div)
+
+  pub below-skips : (column-below w k s t < t) × ((j : ℕ) → column-below w k s t < j → j < t → set-at w k s j ≡ false)
+  unfolding column-below byte
+  below-skips = go (eqb byte 0) refl
+    where
+      go : (b : Bool) → eqb byte 0 ≡ b → (cond b ((t - 1) / 8 * 8) (t - 1) < t)
+          × ((j : ℕ) → cond b ((t - 1) / 8 * 8) (t - 1) < j → j < t → set-at w k s j ≡ false)
+      go true e = (omega arith, λ j a l. unset (eqb→eq byte 0 (subst T (sym e) tt)) j (omega arith))
+      go false e = (omega arith, λ j a l. absurd (omega arith))
 
 row-past : (n w : ℕ) (X : List Bool) (s t : ℕ) → length X ≡ n * w → s < n → w ≤ t → at (row w X s) t ≡ false
 row-past n w X s t h l m = List·getD-eq-default (row w X s) false (rw (row-length n w X s h l) m)
@@ -73,16 +120,18 @@ raster-rows {n} {w} {X} d long room =
       long = long;
       room = room;
       sized = size;
-      rows = λ s h. let l : length (part (bytes w) s k) ≡ bytes w = part-length n (bytes w) k s (omega arith) h in record {
-        long = row-length n w X s long h;
-        room = omega arith;
-        is = written-is (byte-of (at (row w X s))) (bytes w) (part (bytes w) s k) (part (bytes w) s k) (omega arith) refl
-            (λ i q. part-at (bytes w) k s i q
-            ∙ written-at byte (n * bytes w) d (s * bytes w + i) (digits-lt h q)
-            ∙ rw (digits-div s q, digits-mod s q)
-            (sym (byte-same (at (row w X s)) (in-row w X s) i (λ j z. row-in n w X s (8 * i + j) long h))))
-            (λ i q. refl);
-      };
+      rows = λ s h. let l : length (part (bytes w) s k) ≡ bytes w = part-length n (bytes w) k s (omega arith) h in
+          record {
+            long = row-length n w X s long h;
+            room = omega arith;
+            is = written-is (byte-of (at (row w X s))) (bytes w) (part (bytes w) s k) (part (bytes w) s k) (omega arith)
+                refl
+                (λ i q. part-at (bytes w) k s i q
+                ∙ written-at byte (n * bytes w) d (s * bytes w + i) (digits-lt h q)
+                ∙ rw (digits-div s q, digits-mod s q)
+                (sym (byte-same (at (row w X s)) (in-row w X s) i (λ j z. row-in n w X s (8 * i + j) long h))))
+                (λ i q. refl);
+          };
       past = written-past byte (n * bytes w) d;
     }
 
@@ -124,7 +173,7 @@ module _ {n w : ℕ} {X : List Bool} {d k : List ℕ} (R : Raster n w X d k) (s 
     (y : List ℕ) (lz : length Z ≡ n * w) (here : Packed w (row w Z s) y y) (ly : length y ≡ bytes w)
     (other : (i : ℕ) → i < n → i ≢ s → row w Z i ≡ row w X i) where
   fits : s * bytes w + bytes w ≤ length k
-  fits = omega (arith, R .sized, R .room, row-room n (bytes w) s h)
+  fits = omega (arith, R .sized, R .room, row-end n (bytes w) s h)
 
   pub raster-put : Raster n w Z d (take (s * bytes w) k ++ (y ++ drop (bytes w) (drop (s * bytes w) k)))
   unfolding put
@@ -133,7 +182,8 @@ module _ {n w : ℕ} {X : List Bool} {d k : List ℕ} (R : Raster n w X d k) (s 
     room = R .room;
     sized = put-length (s * bytes w) (bytes w) k y fits ly ∙ R .sized;
     rows = λ i l. elim (ℕ-discrete i s) [ yes e ↦ same i e | no e ↦ differ i l e ];
-    past = λ i l. put-after (s * bytes w) (bytes w) k y fits ly i (omega (arith, row-room n (bytes w) s h)) ∙ R .past i l;
+    past = λ i l. put-after (s * bytes w) (bytes w) k y fits ly i (omega (arith, row-end n (bytes w) s h))
+        ∙ R .past i l;
   }
     where
       new : List ℕ
@@ -169,3 +219,58 @@ module _ {n w : ℕ} {X : List Bool} {d k : List ℕ} (R : Raster n w X d k) (s 
 
       differ : (i : ℕ) → i < n → i ≢ s → Packed w (row w Z i) (part (bytes w) i new) (part (bytes w) i new)
       differ i l e = rw (part-else i l e, other i l e) (R .rows i l)
+
+-- entry i of row s set, in a list of rows of b entries: that row
+row-set : {A : Type 0} (b : ℕ) (k : List A) (s i : ℕ) (v : A) → i < b
+    → take b (drop (s * b) (set k (s * b + i) v)) ≡ set (take b (drop (s * b) k)) i v
+row-set b k s i v h = rw (drop-set-add, take-set-lt) refl
+
+-- and every other row
+row-kept : {A : Type 0} (b : ℕ) (k : List A) (s i j : ℕ) (v : A) → i < b → j ≢ s
+    → take b (drop (j * b) (set k (s * b + i) v)) ≡ take b (drop (j * b) k)
+row-kept b k s i j v h e = ⊎-elim before (λ l. ap (take b) (drop-set-lt (j * b) k (s * b + i) v (after l))) (less j s)
+  where
+    before : j < s → take b (drop (j * b) (set k (s * b + i) v)) ≡ take b (drop (j * b) k)
+    before l =
+        let m = s * b + i - j * b in
+        let far : b ≤ m = omega (arith, row-end s b j l) in
+        let q : s * b + i ≡ j * b + m = omega (arith, row-end s b j l) in
+        rw (q, drop-set-add) (take-set-le b (drop (j * b) k) m v far)
+
+    after : s ≤ j → s * b + i < j * b
+    after l = digits-lt (⊎-elim (λ a. a) (λ a. absurd (e (omega arith))) (less s j)) h
+
+module _ {n w : ℕ} {X : List Bool} {d k : List ℕ} (R : Raster n w X d k) (s t : ℕ) (hs : s < n) (ht : t < w) where
+  -- a pair is set in the raster exactly if it is an entry of the table
+  pub raster-bit : set-at w k s t ≡ at X (s * w + t)
+  raster-bit = packed-bit (R .rows s hs) t ht ∙ row-at w X s t ht
+
+  -- a pair taken out
+  pub raster-without : at X (s * w + t) ≡ true → Raster n w (set X (s * w + t) false) d (without w k s t)
+  unfolding without
+  raster-without was = record {
+    long = length-set X (s * w + t) false ∙ R .long;
+    room = R .room;
+    sized = length-set k (s * bytes w + t / 8) new ∙ R .sized;
+    rows = λ i l. elim (ℕ-discrete i s) [ yes e ↦ rw e here | no e ↦ there i l e ];
+    past = λ i l. getD-set-other k (s * bytes w + t / 8) i new 0 (λ e. omega (arith, row-end n (bytes w) s hs))
+        ∙ R .past i l;
+  }
+    where
+      inside : t / 8 < bytes w
+      inside = omega arith
+
+      new : ℕ
+      new = getD k (s * bytes w + t / 8) 0 - 2 ^ (7 - t % 8)
+
+      here : Packed w (row w (set X (s * w + t) false) s) (part (bytes w) s (set k (s * bytes w + t / 8) new))
+          (part (bytes w) s (set k (s * bytes w + t / 8) new))
+      here = rw (
+        row-set w X s t false ht,
+        row-set (bytes w) k s (t / 8) new inside,
+        ← part-at (bytes w) k s (t / 8) inside,
+      ) (packed-self (packed-clear (R .rows s hs) t ht (row-at w X s t ht ∙ was)))
+
+      there : (i : ℕ) → i < n → i ≢ s → Packed w (row w (set X (s * w + t) false) i)
+          (part (bytes w) i (set k (s * bytes w + t / 8) new)) (part (bytes w) i (set k (s * bytes w + t / 8) new))
+      there i l e = rw (row-kept w X s t i false ht e, row-kept (bytes w) k s (t / 8) i new inside e) (R .rows i l)

@@ -20,7 +20,8 @@ use Rattle.tables_check.specs.declared.Found.the-variants.{Passed, NotAllowedAt
 use Rattle.tables_whole.specs.declared.TableAnswer.{TableAnswer}
 use Rattle.tables_whole.specs.declared.TableAnswer.the-variants.{Accepted, OtherTable, StartNotSet, NotAllowed, Broken}
 
--- document 01's number and values of each answer, for w right states and the starts ls and rs; none where the table is accepted
+-- document 01's number and values of each answer, for w right states and
+-- the starts ls and rs; none where the table is accepted
 unfoldable pub refusal-of : ℕ → ℕ → ℕ → TableAnswer → Option Refusal
 refusal-of w ls rs (Accepted count) = none
 refusal-of w ls rs OtherTable = some other-table
@@ -49,13 +50,16 @@ module _ (keep holds lm rm : List ℕ) (n w steps ls rs : ℕ) where
 unfoldable pub table-file : ℕ → ℕ → List Bool → List ℕ
 table-file n w X = header w n ++ raster n w X
 
--- the widest table is made: its file stands in front of the old bytes of t, with its count and whether it has the start pair
-pub record Made {A : Signature} (L R : Finite-system A) (n w : ℕ) (t t′ : List ℕ) (count : ℕ) (start : Bool) : Type 0 where
-  pub table-is : t′ ≡ table-file n w (widest L R) ++ drop (table-bytes w n) t
-  pub count-is : count ≡ ones (widest L R)
-  pub start-is : start ≡ cell L R (widest L R) (L .start) (R .start)
+-- the widest table is made: its file stands in front of the old bytes
+-- of t, with its count and whether it has the start pair
+pub record Made {A : Signature} (L R : Finite-system A) (n w : ℕ) (t t′ : List ℕ) (count : ℕ) (start : Bool) : Type 0
+  where
+    pub table-is : t′ ≡ table-file n w (widest L R) ++ drop (table-bytes w n) t
+    pub count-is : count ≡ ones (widest L R)
+    pub start-is : start ≡ cell L R (widest L R) (L .start) (R .start)
 
 -- for all systems that the slices stand for
 abbrev pub Makes : List ℕ → List ℕ → List ℕ → List ℕ → ℕ → ℕ → ℕ → ℕ → ℕ → List ℕ → List ℕ → ℕ → Bool → Type 0
 Makes keep holds lm rm n w steps ls rs t t′ count start =
-    (A : Signature) (L R : Finite-system A) → Systems A L R keep holds lm rm n w steps ls rs → Made L R n w t t′ count start
+    (A : Signature) (L R : Finite-system A) → Systems A L R keep holds lm rm n w steps ls rs →
+    Made L R n w t t′ count start

@@ -12,12 +12,12 @@ use Rattle.systems.specs.Bools.{T-true}
 use Rattle.systems.specs.Tests.{at, ones}
 use Rattle.systems.specs.Definitions.{Signature}
 use Rattle.systems.specs.Finite.{Finite-system, check}
-use Rattle.clocks_bits.specs.Packed.{bytes, packed-bit}
+use Rattle.clocks_bits.specs.Packed.{bytes}
 use Rattle.tables_header.specs.Header.{header, header-bytes, raster-bytes, fits}
 use Rattle.tables_header.specs.Laws.{fits-iff}
 use Rattle.tables_rows.specs.Given.{Systems}
 use Rattle.tables_rows.specs.Raster.{set-at, denoted, raster-of}
-use Rattle.tables_rows.specs.RasterLaws.{raster-rows, row-at}
+use Rattle.tables_rows.specs.RasterLaws.{raster-rows, raster-bit}
 use Rattle.tables_count.specs.Pairs.{pairs-set}
 use Rattle.tables_count.specs.Ones.{pairs-ones, denoted-raster}
 use Rattle.tables_check.specs.Fault.{fault-at, table-from}
@@ -77,7 +77,8 @@ module _ {A : Signature} (L R : Finite-system A) {keep holds lm rm : List ℕ} {
         raster-answered k ∙ rw (T-true (set-at w k (L .start) (R .start)) a, p, e),
   )
 
-  -- a table is accepted exactly if it is the header and a raster of the right length, and the theory's check accepts the relation that the raster denotes
+  -- a table is accepted exactly if it is the header and a raster of the right length,
+  -- and the theory's check accepts the relation that the raster denotes
   pub table-accepted : (t : List ℕ) (c : ℕ) → (table-answer keep holds lm rm n w steps ls rs t ≡ Accepted c)
       ↔ ((r : List ℕ) × (length r ≡ raster-bytes w n) × (t ≡ header w n ++ r) × T (check L R (set-at w r)) ×
       (c ≡ ones (denoted n w r)))
@@ -116,4 +117,4 @@ raster-denotes n w X d wide long room = denoted-raster wide (raster-rows d long 
 
 pub raster-pairs : (n w : ℕ) (X : List Bool) (d : List ℕ) → length X ≡ n * w → n * bytes w ≤ length d → (s t : ℕ)
     → s < n → t < w → set-at w (raster-of n w X d) s t ≡ at X (s * w + t)
-raster-pairs n w X d long room s t hs ht = packed-bit (raster-rows d long room .rows s hs) t ht ∙ row-at w X s t ht
+raster-pairs n w X d long room s t hs ht = raster-bit (raster-rows d long room) s t hs ht

@@ -38,8 +38,10 @@ module _ (w n : ℕ) (t : List ℕ) (fits : table-bytes w n ≤ length t) where
       → putMid a (length t₁ - a) t₁ y ≡ table-file n w X ++ drop (table-bytes w n) t
   unfolding headed header-bytes raster-of table-file table-bytes
   put-file X a t₁ y ea et ey =
-      let front : take a t₁ ≡ header w n = ap (take a) et ∙ take-at (header w n) (drop (length (header w n)) t) a (sym ea) in
-      let after : drop a t₁ ≡ drop (length (header w n)) t = ap (drop a) et ∙ ap (λ (x : ℕ). drop x headed) ea ∙ headed-rest in
+      let front : take a t₁ ≡ header w n = ap (take a) et ∙ take-at (header w n) (drop (length (header w n)) t) a
+      (sym ea) in
+      let after : drop a t₁ ≡ drop (length (header w n)) t = ap (drop a) et ∙ ap (λ (x : ℕ). drop x headed) ea
+      ∙ headed-rest in
       let none : drop (length t₁ - a) (drop a t₁) ≡ [] =
       drop-of-length-le (drop a t₁) (let q : length (drop a t₁) ≤ length t₁ - a =
       omega (arith, length-drop a t₁) in q) in

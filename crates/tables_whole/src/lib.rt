@@ -31,8 +31,10 @@ pub fn check_raster(
     ls: usize,
     rs: usize,
 ) -> TableAnswer
-    requires { ⌜ Slices (now keep) (now holds) (now lm) (now rm) n w steps ls rs × (n * bytes w ≤ length (now raster)) ⌝ }
-    ensures { λ r. ⌜ r ≡ raster-answer (now (keep .entry)) (now (holds .entry)) (now (lm .entry)) (now (rm .entry)) n w steps ls rs (now (raster .entry)) ⌝ }
+    requires { ⌜ Slices (now keep) (now holds) (now lm) (now rm) n w steps ls rs
+        × (n * bytes w ≤ length (now raster)) ⌝ }
+    ensures { λ r. ⌜ r ≡ raster-answer (now (keep .entry)) (now (holds .entry)) (now (lm .entry)) (now (rm .entry)) n w
+        steps ls rs (now (raster .entry)) ⌝ }
 {
     if !tables_rows::is_set(raster, n, w, ls, rs) {
         return TableAnswer::StartNotSet;
@@ -59,7 +61,8 @@ pub fn check_table(
     rs: usize,
 ) -> TableAnswer
     requires { ⌜ Slices (now keep) (now holds) (now lm) (now rm) n w steps ls rs ⌝ }
-    ensures { λ r. ⌜ r ≡ table-answer (now (keep .entry)) (now (holds .entry)) (now (lm .entry)) (now (rm .entry)) n w steps ls rs (now (table .entry)) ⌝ }
+    ensures { λ r. ⌜ r ≡ table-answer (now (keep .entry)) (now (holds .entry)) (now (lm .entry)) (now (rm .entry)) n w
+        steps ls rs (now (table .entry)) ⌝ }
 {
     if !tables_header::is_table(table, w, n) {
         return TableAnswer::OtherTable;
@@ -68,7 +71,7 @@ pub fn check_table(
     check_raster(&table[a..], keep, holds, lm, rm, n, w, steps, ls, rs)
 }
 
-// The widest table, header and raster, written into the front of the table; `other` is room for one row.
+// The widest table, header and raster, written into the front of the table.
 pub fn make_widest(
     table: &mut [u8],
     keep: &[u8],
@@ -80,24 +83,13 @@ pub fn make_widest(
     steps: usize,
     ls: usize,
     rs: usize,
-    other: &mut [u8],
 ) -> Answer
-    requires { ⌜ Slices (now keep) (now holds) (now lm) (now rm) n w steps ls rs × ((table-bytes w n ≤ length (now table)) × (bytes w ≤ length (now other))) ⌝ }
-    ensures { λ r. ⌜ Makes (now (keep .entry)) (now (holds .entry)) (now (lm .entry)) (now (rm .entry)) n w steps ls rs (now (table .entry)) (now (table .exit)) (r .count) (r .start) ⌝ }
+    requires { ⌜ Slices (now keep) (now holds) (now lm) (now rm) n w steps ls rs
+        × (table-bytes w n ≤ length (now table)) ⌝ }
+    ensures { λ r. ⌜ Makes (now (keep .entry)) (now (holds .entry)) (now (lm .entry)) (now (rm .entry)) n w steps ls rs
+        (now (table .entry)) (now (table .exit)) (r .count) (r .start) ⌝ }
 {
     tables_header::write_header(table, w, n);
     let a = tables_header::header_length(w, n);
-    tables_widest::widest(
-        &mut table[a..],
-        other,
-        keep,
-        holds,
-        lm,
-        rm,
-        n,
-        w,
-        steps,
-        ls,
-        rs,
-    )
+    tables_widest::widest(&mut table[a..], keep, holds, lm, rm, n, w, steps, ls, rs)
 }

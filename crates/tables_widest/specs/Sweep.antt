@@ -1,38 +1,39 @@
--- The widest table on a raster: rows are narrowed step by step until nothing is taken out.
+-- The widest table on a raster: pairs that break a rule are taken out until none does.
 use mathlib.Core.Path.{_≡_}
 use mathlib.Core.Bool.{Bool}
-use mathlib.Core.Option.{none}
 use mathlib.Core.List.{List}
-use Prim.Native.Nat.{ℕ, _+_, _-_, _*_, _≤_, _<_}
+use Prim.Native.Nat.{ℕ, _+_, _*_, _≤_, _<_}
 use lib.Dec.{T}
-use lib.ListN.{length, getD}
-use Rattle.systems.specs.Tests.{stays, lands, at, ones, table}
+use lib.ListN.{getD}
+use Rattle.systems.specs.Tests.{stays, lands, at, ones}
 use Rattle.systems.specs.Sieve.{Between}
 use Rattle.systems.specs.Definitions.{Signature}
 use Rattle.systems.specs.Finite.{Finite-system, pairs, widest}
 use Rattle.systems.specs.Refinement.{pair-rule}
 use Rattle.clocks_bits.specs.Moves.{decode, Bounded}
-use Rattle.clocks_bits.specs.Packed.{bytes}
-use Rattle.tables_rows.specs.Raster.{Raster, row}
-use Rattle.tables_rows.specs.Given.{Given}
-use Rattle.tables_rows.specs.Narrow.{Table}
+use Rattle.clocks_bits.specs.Given.{Given}
+use Rattle.tables_rows.specs.Raster.{Raster, Table}
 
 -- what a sweep needs of the slices
-pub record Sweepable (n w steps : ℕ) (lm rm raster other : List ℕ) : Type 0 where
+pub record Sweepable (n w steps : ℕ) (lm rm raster : List ℕ) : Type 0 where
   pub left : Bounded n steps lm
   pub right : Bounded w steps rm
   pub table : Table n w raster
   pub wide : 0 < w
-  pub room : bytes w ≤ length other
 
--- step c of row s is matched in the table X
-abbrev pub Matched : List ℕ → List ℕ → ℕ → ℕ → List Bool → ℕ → ℕ → Type 0
-Matched lm rm w steps X s c = (t : ℕ) → t < w → T (at X (s * w + t))
-    → T (stays (λ u. lands (λ v. at X (u * w + v)) (decode (getD rm (t * steps + c) 0)))
-    (decode (getD lm (s * steps + c) 0)))
+-- step c of the pair (s, t) is matched in the table X
+abbrev pub matched : List ℕ → List ℕ → ℕ → ℕ → List Bool → ℕ → ℕ → ℕ → Bool
+matched lm rm w steps X s t c = stays (λ u. lands (λ v. at X (u * w + v)) (decode (getD rm (t * steps + c) 0)))
+    (decode (getD lm (s * steps + c) 0))
 
--- what a part of the sweep does to the table X: r entries are taken out, each for a reason; with none taken out, P holds
-pub record Swept (lm rm : List ℕ) (n w steps : ℕ) (P : List Bool → Type 0) (X : List Bool) (d k : List ℕ) (r : ℕ) : Type 0 where
+-- the pair (s, t), if X has it, is matched at every step
+abbrev pub Matched : List ℕ → List ℕ → ℕ → ℕ → ℕ → ℕ → List Bool → Type 0
+Matched lm rm w steps s t X = T (at X (s * w + t)) → (c : ℕ) → c < steps → T (matched lm rm w steps X s t c)
+
+-- what a part of the sweep does to the table X: r entries are taken
+-- out, each for a reason; with none taken out, P holds
+pub record Swept (lm rm : List ℕ) (n w steps : ℕ) (P : List Bool → Type 0) (X : List Bool) (d k : List ℕ) (r : ℕ) : Type
+    0 where
   pub after : List Bool
   pub is : Raster n w after d k
   pub count : r + ones after ≡ ones X
@@ -43,13 +44,13 @@ pub record Swept (lm rm : List ℕ) (n w steps : ℕ) (P : List Bool → Type 0)
 abbrev pub Sweeps : List ℕ → List ℕ → ℕ → ℕ → ℕ → (List Bool → Type 0) → List ℕ → List ℕ → ℕ → Type 0
 Sweeps lm rm n w steps P k k′ r = (X : List Bool) (d : List ℕ) → Raster n w X d k → Swept lm rm n w steps P X d k′ r
 
--- the steps below k of row s are matched
+-- the pairs of row s from column t on are matched
 abbrev pub Row-matched : List ℕ → List ℕ → ℕ → ℕ → ℕ → ℕ → List Bool → Type 0
-Row-matched lm rm w steps s k X = (c : ℕ) → c < k → Matched lm rm w steps X s c
+Row-matched lm rm w steps s t X = (j : ℕ) → t ≤ j → j < w → Matched lm rm w steps s j X
 
 -- the rows from s on are matched
 abbrev pub Rows-matched : List ℕ → List ℕ → ℕ → ℕ → ℕ → ℕ → List Bool → Type 0
-Rows-matched lm rm n w steps s X = (i : ℕ) → s ≤ i → i < n → Row-matched lm rm w steps i steps X
+Rows-matched lm rm n w steps s X = (i : ℕ) → s ≤ i → i < n → Row-matched lm rm w steps i 0 X
 
 pub record Counted (n w : ℕ) (k : List ℕ) (count : ℕ) : Type 0 where
   pub entries : List Bool

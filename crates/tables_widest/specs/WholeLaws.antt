@@ -12,10 +12,10 @@ use Rattle.systems.specs.Finite.{Finite-system, safe-states, safe, pairs, wides
 use Rattle.clocks_bits.specs.Bits.{bit-at}
 use Rattle.clocks_bits.specs.Packed.{Packed, packed-bit, Bitmap}
 use Rattle.tables_rows.specs.Raster.{set-at, Raster}
-use Rattle.tables_rows.specs.RasterLaws.{raster-is, row-at}
+use Rattle.tables_rows.specs.RasterLaws.{raster-is, raster-bit}
 use Rattle.tables_fill.specs.Fill.{fills, filled, Filling}
 use Rattle.tables_fill.specs.FillLaws.{table-at, table-same}
-use Rattle.tables_rows.specs.Given.{Given}
+use Rattle.clocks_bits.specs.Given.{Given}
 use Rattle.tables_count.specs.Pairs.{pairs-set}
 use Rattle.tables_count.specs.Ones.{pairs-raster}
 use Rattle.tables_widest.specs.Sweep.{Counted, Settled}
@@ -31,7 +31,8 @@ module _ {A : Signature} {L R : Finite-system A} {lm rm : List ℕ} {n w steps :
   pub pairs-filled : fills n w (bit-at keep) (at (table w (R .holds))) n ≡ pairs L R
   unfolding pairs filled
   pairs-filled =
-      table-same (n * w) (filled w (bit-at keep) (at (table w (R .holds))) n) (λ p. safe L (p / w) && R .holds (p % w)) agree
+      table-same (n * w) (filled w (bit-at keep) (at (table w (R .holds))) n) (λ p. safe L (p / w) && R .holds (p % w))
+      agree
       ∙ ap (λ (x : ℕ). table (n * w) (λ p. safe L (p / x) && R .holds (p % x))) (sym (G .right-size))
       ∙ ap (λ (x : ℕ). table x (λ p. safe L (p / R .size) && R .holds (p % R .size))) (sym sized)
     where
@@ -57,7 +58,7 @@ widest-answered lm rm keep holds n w steps ls rs k k₁ k′ r start wide hl hr 
     record {
       raster-is-widest = raster-is wide W;
       count-is = c;
-      start-is = e ∙ packed-bit (W .rows ls hl) rs hr ∙ row-at w (widest L R) ls rs hr ∙ cells;
+      start-is = e ∙ raster-bit W ls rs hl hr ∙ cells;
     }
   where
     cells : at (widest L R) (ls * w + rs) ≡ at (widest L R) (L .start * R .size + R .start)

@@ -1,5 +1,5 @@
-// Runs the cases of data/cases through the operations over two texts and prints each answer with everything lent, whole.
-// tests/make_cases.py writes the cases and, from an independent reading of document 01, the expected output.
+// Runs the cases of data/cases through the operations over two texts and prints each answer with everything lent,
+// whole. tests/make_cases.py writes the cases and, from an independent reading of document 01, the expected output.
 use libc::STDOUT_FILENO;
 use refusals::Refusal;
 use search::SearchAnswer;

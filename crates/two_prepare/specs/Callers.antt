@@ -7,6 +7,7 @@ use Prim.Native.Nat.{ℕ, _≤_, _<_}
 use native.Mathlib.Omega.{arith}
 use lib.ListN.{length}
 use Rattle.refusals.specs.declared.Refusal.{Refusal}
+use Rattle.clocks_bits.specs.Given.{Given}
 use Rattle.two_texts.specs.declared.TwoAnswer.the-variants.{Accepted, Refused}
 use Rattle.two_texts.specs.declared.Two.{Two}
 use Rattle.two_texts.specs.Two.{two-judged, Compared, left-system, right-system, judged-by}
@@ -14,21 +15,32 @@ use Rattle.two_texts.specs.Laws.{compared, judged-by-none, judged-by-some}
 use Rattle.two_texts.specs.Loaded.{Loaded, Loads, refusal-in}
 use Rattle.two_prepare.specs.Prepared.{Ready, Ready-two, Safe-left, Prepared}
 
-module _ {left right : List ℕ} (c : Compared left right) {lm rm lh rh : List ℕ} {t : Two} (D : Loaded c lm rm lh rh t) where
-  pub loaded-ready : t .steps ≤ length (t .inputs) → Ready t lm lh
-  loaded-ready h = record {
-    bounded = D .left-bounded;
-    bits = D .left-bits;
-    start = omega (arith, left-system c .start-state .0, D .left-size, D .left-start);
-    known = h;
-  }
+module _ {left right : List ℕ} (c : Compared left right) {lm rm lh rh : List ℕ} {t : Two} (D : Loaded c lm rm lh rh t)
+  where
+    pub loaded-ready : t .steps ≤ length (t .inputs) → Ready t lm lh
+    loaded-ready h = record {
+      bounded = D .left-bounded;
+      bits = D .left-bits;
+      start = omega (arith, left-system c .start-state .0, D .left-size, D .left-start);
+      known = h;
+    }
 
-  pub loaded-right-start : t .«right_start» < t .«right_states»
-  loaded-right-start = omega (arith, right-system c .start-state .0, D .right-size, D .right-start)
+    pub loaded-right-start : t .«right_start» < t .«right_states»
+    loaded-right-start = omega (arith, right-system c .start-state .0, D .right-size, D .right-start)
 
-  pub safe-left : (lm′ keep keep′ : List ℕ) (start : Bool) → Prepared t lh lm lm′ keep keep′ start
-      → Safe-left (left-system c) t lm′ keep keep′ start
-  safe-left lm′ keep keep′ start P = P .left _ (left-system c) (D .left-encoded) (D .left-invariants) (D .left-start)
+    pub safe-left : (lm′ keep keep′ : List ℕ) (start : Bool) → Prepared t lh lm lm′ keep keep′ start
+        → Safe-left (left-system c) t lm′ keep keep′ start
+    safe-left lm′ keep keep′ start P = P .left _ (left-system c) (D .left-encoded) (D .left-invariants) (D .left-start)
+
+    pub prepared-moves : (lm′ keep keep′ : List ℕ) (start : Bool) → Prepared t lh lm lm′ keep keep′ start
+        → Given _ (left-system c) (right-system c) lm′ rm (t .«left_states») (t .«right_states») (t .steps)
+    prepared-moves lm′ keep keep′ start P = record {
+      left-size = D .left-size;
+      right-size = D .right-size;
+      known = D .left-encoded .known;
+      left = safe-left lm′ keep keep′ start P .moves-left;
+      right = D .right-encoded;
+    }
 
 -- the whole operations, once two texts are loaded: an outcome by codes 1 to 12
 module _ (left right lm rm lh rh : List ℕ) (t : Two) (O : Loads left right lm rm lh rh t) where

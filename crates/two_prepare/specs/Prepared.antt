@@ -11,19 +11,21 @@ use Rattle.clocks_bits.specs.Moves.{Bounded, Encodes, Encoded}
 use Rattle.clocks_safe.specs.Settle.{Starts}
 use Rattle.two_texts.specs.declared.Two.{Two}
 
--- what the loops need of the left's slices: moves that stay among its states, a bit for each state, the start among them
+-- what the loops need of the left's slices: moves that stay among its
+-- states, a bit for each state, the start among them
 pub record Ready (t : Two) (moves holds : List ℕ) : Type 0 where
   pub bounded : Bounded (t .«left_states») (t .steps) moves
   pub bits : Bitmap (t .«left_states») holds
   pub start : t .«left_start» < t .«left_states»
   pub known : t .steps ≤ length (t .inputs)
 
--- what is promised for a left system L: keep has its safe states in front of the old bytes, the answer is whether its start
--- is safe, and the moves are its own without those that leave the safe states
-pub record Safe-left {A : Signature} (L : Finite-system A) (t : Two) (moves keep keep′ : List ℕ) (start : Bool) : Type 0 where
-  pub kept : keep′ ≡ packed (t .«left_states») (safe-states L) keep
-  pub answer : start ≡ safe L (L .start)
-  pub moves-left : Encodes (pruned L) (t .«left_states») (t .steps) moves
+-- what is promised for a left system L: keep has its safe states in front of the old bytes, the answer is whether its
+-- start is safe, and the moves are its own without those that leave the safe states
+pub record Safe-left {A : Signature} (L : Finite-system A) (t : Two) (moves keep keep′ : List ℕ) (start : Bool) : Type 0
+  where
+    pub kept : keep′ ≡ packed (t .«left_states») (safe-states L) keep
+    pub answer : start ≡ safe L (L .start)
+    pub moves-left : Encodes (pruned L) (t .«left_states») (t .steps) moves
 
 -- for every system that the slices hold
 pub record Prepared (t : Two) (holds moves moves′ keep keep′ : List ℕ) (start : Bool) : Type 0 where

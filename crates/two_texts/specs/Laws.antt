@@ -63,8 +63,10 @@ judged-none left right e =
 pub named : (s : List ℕ) → read-outcome s .answer ≡ read.Accepted → Well-named s (text-of s)
 named s e = let r = read-accepted s e in rw (r .same) (read-named s (r .parsed))
 
-pub channels-equal : (left right : List ℕ) → Judged left right → Equal-channels left (text-of left) right (text-of right)
-channels-equal left right j = equal-when-nothing left (text-of left) right (text-of right) (named left (j .left-read)) (named right (j .right-read)) (j .equal)
+pub channels-equal : (left right : List ℕ) → Judged left right
+    → Equal-channels left (text-of left) right (text-of right)
+channels-equal left right j = equal-when-nothing left (text-of left) right (text-of right) (named left (j .left-read))
+    (named right (j .right-read)) (j .equal)
 
 pub judged-compared : (left right : List ℕ) → Judged left right → Compared left right
 unfolding signature
@@ -73,7 +75,8 @@ judged-compared left right j = record {
   right-text = read-accepted right (j .right-read) .accepted;
   inputs = λ c i.
       let (a, b) = input-known (text-of left) c i in
-      subst T (sym (step-input left (text-of left) right (text-of right) (named left (j .left-read)) (named right (j .right-read)) (channels-equal left right j) c (record { from-one = a; declared = b }))) i;
+      subst T (sym (step-input left (text-of left) right (text-of right) (named left (j .left-read))
+      (named right (j .right-read)) (channels-equal left right j) c (record { from-one = a; declared = b }))) i;
 }
 
 pub compared : (left right : List ℕ) → none ≡ two-judged left right → Compared left right
@@ -84,10 +87,13 @@ pub judged-by-none : {X : Type 0} (o : Option Refusal) (refused : Refusal → X)
     → judged-by o refused accepted ≡ accepted e
 unfolding judged-by
 judged-by-none {X} o refused accepted e =
-    pathJ (λ (p : Option Refusal) (q : none ≡ p). (f : none ≡ p → X) → judged-by p refused f ≡ f q) (λ f. refl) e accepted
+    pathJ (λ (p : Option Refusal) (q : none ≡ p). (f : none ≡ p → X) → judged-by p refused f ≡ f q) (λ f. refl) e
+    accepted
 
-pub judged-by-some : {X : Type 0} (o : Option Refusal) (refused : Refusal → X) (accepted : none ≡ o → X) (r : Refusal) → o ≡ some r
+pub judged-by-some : {X : Type 0} (o : Option Refusal) (refused : Refusal → X) (accepted : none ≡ o → X) (r : Refusal)
+    → o ≡ some r
     → judged-by o refused accepted ≡ refused r
 unfolding judged-by
 judged-by-some {X} o refused accepted r e =
-    pathJ (λ (p : Option Refusal) (q : some r ≡ p). (f : none ≡ p → X) → judged-by p refused f ≡ refused r) (λ f. refl) (sym e) accepted
+    pathJ (λ (p : Option Refusal) (q : some r ≡ p). (f : none ≡ p → X) → judged-by p refused f ≡ refused r) (λ f. refl)
+    (sym e) accepted

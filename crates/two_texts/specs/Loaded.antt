@@ -20,21 +20,26 @@ refusal-in (Refused r) = some r
 
 -- the numbers of t and the slices are those of the two texts: moves by the left's step numbers, the left's not pruned,
 -- and a bit for each state whose invariant is true
-pub record Loaded {left right : List ℕ} (c : Compared left right) (left-moves right-moves left-holds right-holds : List ℕ) (t : Two) : Type 0 where
+pub record Loaded {left right : List ℕ} (c : Compared left right)
+    (left-moves right-moves left-holds right-holds : List ℕ) (t : Two) : Type 0 where
   pub left-size : left-system c .size ≡ t .«left_states»
   pub right-size : right-system c .size ≡ t .«right_states»
   pub left-start : left-system c .start ≡ t .«left_start»
   pub right-start : right-system c .start ≡ t .«right_start»
   pub left-bounded : Bounded (t .«left_states») (t .steps) left-moves
   pub right-bounded : Bounded (t .«right_states») (t .steps) right-moves
-  pub left-encoded : Encoded (signature (text-of left)) (left-system c) left-moves (t .inputs) (t .«left_states») (t .steps)
+  pub left-encoded : Encoded (signature (text-of left)) (left-system c) left-moves (t .inputs) (t .«left_states»)
+      (t .steps)
   pub right-encoded : Encodes (right-system c .next) (t .«right_states») (t .steps) right-moves
   pub left-bits : Bitmap (t .«left_states») left-holds
-  pub left-invariants : left-holds ≡ packed (t .«left_states») (table (t .«left_states») (left-system c .holds)) left-holds
+  pub left-invariants : left-holds ≡ packed (t .«left_states») (table (t .«left_states») (left-system c .holds))
+      left-holds
   pub right-bits : Bitmap (t .«right_states») right-holds
-  pub right-invariants : right-holds ≡ packed (t .«right_states») (table (t .«right_states») (right-system c .holds)) right-holds
+  pub right-invariants : right-holds ≡ packed (t .«right_states») (table (t .«right_states») (right-system c .holds))
+      right-holds
 
 -- what loading two texts promises
 pub record Loads (left right left-moves right-moves left-holds right-holds : List ℕ) (t : Two) : Type 0 where
   pub judged : two-judged left right ≡ refusal-in (t .answer)
-  pub loaded : (c : Compared left right) → t .answer ≡ Accepted → Loaded c left-moves right-moves left-holds right-holds t
+  pub loaded : (c : Compared left right) → t .answer ≡ Accepted
+      → Loaded c left-moves right-moves left-holds right-holds t

@@ -134,6 +134,8 @@ module _ (left right lm rm lh rh : List ℕ) (j : Judged left right) (c : Compar
         right-encoded = right-encoded left right rm rh j c R;
         left-bits = bits-bitmap l a (L .under) lh (L .long) (L .holds-are) (length-invariants l);
         left-invariants = bits-start l a (L .under) lh (L .long) (L .holds-are) (length-invariants l);
-        right-bits = bits-bitmap r b (R .filled .under) rh (R .filled .long) (R .filled .holds-are) (length-invariants r);
-        right-invariants = bits-start r b (R .filled .under) rh (R .filled .long) (R .filled .holds-are) (length-invariants r);
+        right-bits = bits-bitmap r b (R .filled .under) rh (R .filled .long) (R .filled .holds-are)
+            (length-invariants r);
+        right-invariants = bits-start r b (R .filled .under) rh (R .filled .long) (R .filled .holds-are)
+            (length-invariants r);
       }

@@ -16,8 +16,8 @@ pub enum TwoAnswer {
     Refused(Refusal),
 }
 
-// What the operations need of two texts: how many states each has, how many steps there are (the tick and the channels),
-// the starts, and which steps are inputs. All 0 and false beside a refusal.
+// What the operations need of two texts: how many states each has, how many steps there are (the tick and the
+// channels), the starts, and which steps are inputs. All 0 and false beside a refusal.
 pub struct Two {
     pub answer: TwoAnswer,
     pub left_states: usize,
@@ -67,8 +67,10 @@ fn accepted(l: Text, left_states: usize, r: Text, right_states: usize) -> Two
 
 // Code 12, else the right's table `own` is written to `moves` by the left's steps.
 fn paired(left: &[u8], l: Reading, right: &[u8], r: Reading, own: &[u16], moves: &mut [u16]) -> Two
-    requires { ⌜ Accepted-reading (now left) l × Accepted-reading (now right) r × (table-limit ≤ length (now own)) × (table-limit ≤ length (now moves)) ⌝ }
-    ensures { λ t. ⌜ Paired (now (left .entry)) (now (right .entry)) (now (own .entry)) (now (moves .entry)) (now (moves .exit)) t ⌝ }
+    requires { ⌜ Accepted-reading (now left) l × Accepted-reading (now right) r × (table-limit ≤ length (now own))
+        × (table-limit ≤ length (now moves)) ⌝ }
+    ensures { λ t. ⌜ Paired (now (left .entry)) (now (right .entry)) (now (own .entry)) (now (moves .entry))
+        (now (moves .exit)) t ⌝ }
 {
     let a = l.text;
     let b = r.text;
@@ -89,7 +91,8 @@ fn paired(left: &[u8], l: Reading, right: &[u8], r: Reading, own: &[u16], moves:
 
 // Reads the right text after the left one was accepted.
 fn load_right(left: &[u8], l: Reading, right: &[u8], moves: &mut [u16], holds: &mut [u8]) -> Two
-    requires { ⌜ Accepted-reading (now left) l × (table-limit ≤ length (now moves)) × (bytes-limit ≤ length (now holds)) ⌝ }
+    requires { ⌜ Accepted-reading (now left) l × (table-limit ≤ length (now moves))
+        × (bytes-limit ≤ length (now holds)) ⌝ }
     ensures { λ t. ⌜ Right-loaded (now (left .entry)) (now (right .entry)) (now (moves .exit)) (now (holds .exit)) t ⌝ }
 {
     let mut own = clocks_read::no_moves();
@@ -114,8 +117,10 @@ pub fn load_two(
     lh: &mut [u8],
     rh: &mut [u8],
 ) -> Two
-    requires { ⌜ (table-limit ≤ length (now lm)) × (table-limit ≤ length (now rm)) × (bytes-limit ≤ length (now lh)) × (bytes-limit ≤ length (now rh)) ⌝ }
-    ensures { λ t. ⌜ Loads (now (left .entry)) (now (right .entry)) (now (lm .exit)) (now (rm .exit)) (now (lh .exit)) (now (rh .exit)) t ⌝ }
+    requires { ⌜ (table-limit ≤ length (now lm)) × (table-limit ≤ length (now rm)) × (bytes-limit ≤ length (now lh))
+        × (bytes-limit ≤ length (now rh)) ⌝ }
+    ensures { λ t. ⌜ Loads (now (left .entry)) (now (right .entry)) (now (lm .exit)) (now (rm .exit)) (now (lh .exit))
+        (now (rh .exit)) t ⌝ }
 {
     if 32768 < left.len() {
         let f = Refusal {

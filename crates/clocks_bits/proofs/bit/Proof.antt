@@ -1,4 +1,3 @@
--- `clocks_bits::bit` meets its contract: each need, from the callees' contracts and the laws in the `use` lines.
 use native.Mathlib.Omega.{arith}
 use mathlib.Core.Path.{_≡_, sym, _∙_, ap, refl}
 use Rattle.clocks_bits.specs.Bits.{num}

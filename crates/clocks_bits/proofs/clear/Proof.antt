@@ -1,4 +1,3 @@
--- `clocks_bits::clear` meets its contract: each need, from the callees' contracts and the laws in the `use` lines.
 use Rattle.clocks_bits.specs.Bits.{bit-at, clear-one, bit-ge}
 use borrow.Author.Tests.{eqb-true}
 use lib.ListN.{length, getD, set}
@@ -23,7 +22,10 @@ shl-s c = search needs
 
 sub-s : tie.Need-sub-s
 unfolding bit-at
-sub-s c = rw (clear-one (7 - c .before .args .i % 8) (omega arith)) (bit-ge _ (7 - c .before .args .i % 8) (omega arith) (eqb-true _ 1 (c .before .pre .1)))
+sub-s c =
+    let args = c .before .args in
+    rw (clear-one (7 - args .i % 8) (omega arith))
+    (bit-ge _ (7 - args .i % 8) (omega arith) (eqb-true _ 1 (c .before .pre .1)))
 
 slice-write-s : tie.Need-slice-write-s
 slice-write-s c = search needs

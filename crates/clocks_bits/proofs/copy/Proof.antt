@@ -1,4 +1,3 @@
--- `clocks_bits::copy` meets its contract: its loop by an invariant, from the callees' contracts and the laws in the `use` lines.
 use borrow.Author.Needs.{needs}
 use native.Mathlib.Omega.{arith}
 use mathlib.Core.Path.{_≡_, sym, _∙_, ap, refl}
@@ -31,13 +30,24 @@ loop-less : tie.Need-loop-less Inv-loop μ-loop
 loop-less c = search needs
 
 loop-again : tie.Need-loop-again Inv-loop μ-loop
-loop-again c = (omega arith, (simp length-set (omega arith), rw (c .before .before .loop .inv .1 .1) (written-more (λ (j : ℕ). getD (c .before .before .before .args .k .now) j 0) (c .before .before .loop .i) (c .before .before .before .args .s .now) _ (omega arith) refl)))
+loop-again c =
+    let args = c .before .before .before .args in
+    let loop = c .before .before .loop in (
+      omega arith,
+      (
+        simp length-set (omega arith),
+        rw (loop .inv .1 .1)
+            (written-more (λ (j : ℕ). getD (args .k .now) j 0) (loop .i) (args .s .now) _ (omega arith) refl),
+      ),
+    )
 
 same-length : tie.Need-same-length Inv-loop μ-loop
 same-length c = search needs
 
 returns : tie.Need-returns Inv-loop μ-loop
-returns c = let e : c .before .loop .i ≡ c .before .before .args .m = omega arith in rw e at (c .before .loop .inv .1 .1)
+returns c =
+    let loop = c .before .loop in
+    let e : loop .i ≡ c .before .before .args .m = omega arith in rw e at (loop .inv .1 .1)
 
 pub copy-spec : {M : Type 1} → statement M
 copy-spec =

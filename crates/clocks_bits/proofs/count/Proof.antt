@@ -1,4 +1,3 @@
--- `clocks_bits::count` meets its contract: its loop by an invariant, from the callees' contracts and the laws in the `use` lines.
 use borrow.Author.Needs.{needs}
 use native.Mathlib.Omega.{arith}
 use mathlib.Core.Path.{_≡_, sym, _∙_, ap, refl}
@@ -13,7 +12,8 @@ use Rattle.clocks_bits.proofs.count.Statement.{statement}
 use Rattle.clocks_bits.proofs.count.Tie as tie
 
 abbrev Inv-loop : tie.InvT-loop
-Inv-loop s n r₀ i₀ r i = (i ≤ n) × ((r ≤ i) × ((X : List Bool) (d : List ℕ) → Packed n X d s → r + ones (drop i X) ≡ ones X))
+Inv-loop s n r₀ i₀ r i = (i ≤ n) × ((r ≤ i) × ((X : List Bool) (d : List ℕ) → Packed n X d s → r + ones (drop i X)
+    ≡ ones X))
 
 abbrev μ-loop : tie.MeasureT-loop
 μ-loop s n r₀ i₀ r i = n - i
@@ -25,7 +25,9 @@ bit-requires : tie.Need-bit-requires Inv-loop μ-loop
 bit-requires c κs = search needs
 
 add-r : tie.Need-add-r Inv-loop μ-loop
-add-r c = omega (arith, c .bit .ensures, num-le (bit-at (c .before .before .before .before .args .s .now) (c .before .before .loop .i)))
+add-r c =
+    let args = c .before .before .before .before .args in
+    omega (arith, c .bit .ensures, num-le (bit-at (args .s .now) (c .before .before .loop .i)))
 
 add-i : tie.Need-add-i Inv-loop μ-loop
 add-i c = search needs
@@ -34,10 +36,22 @@ loop-less : tie.Need-loop-less Inv-loop μ-loop
 loop-less c = search needs
 
 loop-again : tie.Need-loop-again Inv-loop μ-loop
-loop-again c = (omega arith, (omega (arith, c .bit .ensures, num-le (bit-at (c .before .before .before .before .args .s .now) (c .before .before .loop .i))), λ X d P. let e : c .bit .result ≡ num (at X (c .before .before .loop .i)) = c .bit .ensures ∙ ap num (packed-bit P (c .before .before .loop .i) (c .before .loop-test .taken)) in omega (arith, ones-drop X (c .before .before .loop .i) (omega (arith, P .long)), c .before .before .loop .inv .1 .1 X d P)))
+loop-again c =
+    let args = c .before .before .before .before .args in
+    let loop = c .before .before .loop in (
+      omega arith,
+      (
+        omega (arith, c .bit .ensures, num-le (bit-at (args .s .now) (loop .i))),
+        λ X d P. let e : c .bit
+            .result ≡ num (at X (loop .i)) = c .bit .ensures ∙ ap num (packed-bit P (loop .i) (c .before .loop-test .taken))
+            in omega (arith, ones-drop X (loop .i) (omega (arith, P .long)), loop .inv .1 .1 X d P),
+      ),
+    )
 
 returns : tie.Need-returns Inv-loop μ-loop
-returns c = λ X d P. omega (arith, ones-past X (c .before .loop .i) (omega (arith, P .long)), c .before .loop .inv .1 .1 X d P)
+returns c =
+    let loop = c .before .loop in
+    λ X d P. omega (arith, ones-past X (loop .i) (omega (arith, P .long)), loop .inv .1 .1 X d P)
 
 pub count-spec : {M : Type 1} → statement M
 count-spec =

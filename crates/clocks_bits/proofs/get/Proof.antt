@@ -1,4 +1,3 @@
--- `clocks_bits::get` meets its contract: each need, from the callees' contracts and the laws in the `use` lines.
 use Rattle.clocks_bits.specs.Bits.{bit-at}
 use borrow.Author.Needs.{needs}
 use Rattle.clocks_bits.proofs.get.Statement.{statement}

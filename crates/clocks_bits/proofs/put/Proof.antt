@@ -1,4 +1,3 @@
--- `clocks_bits::put` meets its contract: each need, from the callees' contracts and the laws in the `use` lines.
 use borrow.Author.Needs.{needs}
 use native.Mathlib.Omega.{arith}
 use Prim.Native.Nat.{_-_, _/_, _%_}
@@ -23,7 +22,14 @@ shl-s c = search needs
 
 add-s : tie.Need-add-s
 unfolding bit-at
-add-s c = rw (clear-one (7 - c .before .before .args .i % 8) (omega arith)) (omega (arith, bit-room (getD (c .before .before .args .s .now) (c .before .before .args .i / 8) 0) (7 - c .before .before .args .i % 8) (omega arith) (omega (arith, c .slice-known .given (c .before .before .args .i / 8))) (eqb-false _ 1 (c .before .before .pre .1))))
+add-s c =
+    let args = c .before .before .args in
+    rw (clear-one (7 - args .i % 8) (omega arith))
+    (omega (
+      arith,
+      bit-room (getD (args .s .now) (args .i / 8) 0) (7 - args .i % 8) (omega arith)
+          (omega (arith, c .slice-known .given (args .i / 8))) (eqb-false _ 1 (c .before .before .pre .1)),
+    ))
 
 slice-write-s : tie.Need-slice-write-s
 slice-write-s c = search needs
@@ -32,10 +38,14 @@ same-length : tie.Need-same-length
 same-length c = search needs
 
 returns : tie.Need-returns
-returns c = rw (clear-one (7 - c .before .before .args .i % 8) (omega arith)) (put-on (c .before .before .args .s .now) (c .before .before .args .i) (c .before .before .args .b) (c .before .if1 .taken))
+returns c =
+    let args = c .before .before .args in
+    rw (clear-one (7 - args .i % 8) (omega arith)) (put-on (args .s .now) (args .i) (args .b) (c .before .if1 .taken))
 
 returns-2 : tie.Need-returns-2
-returns-2 c = put-off (c .before .args .s .now) (c .before .args .i) (c .before .args .b) (c .if1 .left)
+returns-2 c =
+    let args = c .before .args in
+    put-off (args .s .now) (args .i) (args .b) (c .if1 .left)
 
 pub put-spec : {M : Type 1} → statement M
 put-spec =

@@ -1,4 +1,3 @@
--- `clocks_read::answer_of` meets its contract: each need, from the callees' contracts and the laws in the `use` lines.
 use borrow.Author.Needs.{needs}
 use Rattle.clocks_read.specs.Reading.{refused, judged-reading}
 use Rattle.clocks_read.proofs.answer_of.Statement.{statement}

@@ -1,4 +1,3 @@
--- `clocks_read::judged` meets its contract: each need, from the callees' contracts and the laws in the `use` lines.
 use borrow.Author.Needs.{needs}
 use Rattle.clocks_read.specs.Paths.{judged-done}
 use Rattle.clocks_read.proofs.judged.Statement.{statement}
@@ -23,7 +22,11 @@ same-length-2 : tie.Need-same-length-2
 same-length-2 c = search needs
 
 returns : tie.Need-returns
-returns c = judged-done (c .before .before .before .before .before .before .before .before .before .before .before .before .args .t) _ _ _ _ (c .before .before .before .before .before .judge .result) _ (c .before .before .before .before .before .judge .ensures) (c .answer-of .ensures)
+returns c =
+    let args = c .before .before .before .before .before .before .before .before .before .before .before .before .args
+    in
+    let judge-call = c .before .before .before .before .before .judge in
+    judged-done (args .t) _ _ _ _ (judge-call .result) _ (judge-call .ensures) (c .answer-of .ensures)
 
 pub judged-spec : {M : Type 1} → statement M
 judged-spec =

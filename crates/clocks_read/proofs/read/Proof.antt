@@ -1,4 +1,3 @@
--- `clocks_read::read` meets its contract: each need, from the callees' contracts and the laws in the `use` lines.
 use borrow.Author.Needs.{needs}
 use mathlib.Core.Path.{ap, _∙_}
 use Rattle.clocks_read.specs.Reading.{Loading}
@@ -22,7 +21,9 @@ load-requires : tie.Need-load-requires
 load-requires c κs = search needs
 
 returns : tie.Need-returns
-returns c = ap (λ (l : Loading). l .reading) (c .before .before .load .ensures) ∙ load-reading (c .before .before .before .before .before .before .before .before .args .text .now) _ _
+returns c =
+    let args = c .before .before .before .before .before .before .before .before .args in
+    ap (λ (l : Loading). l .reading) (c .before .before .load .ensures) ∙ load-reading (args .text .now) _ _
 
 pub read-spec : {M : Type 1} → statement M
 read-spec =

@@ -1,4 +1,3 @@
--- `clocks_safe::input_passes` meets its contract: each need, from the callees' contracts and the laws in the `use` lines.
 use borrow.Author.Needs.{needs}
 use native.Mathlib.Omega.{arith}
 use mathlib.Core.Path.{_≡_, sym, _∙_, ap, refl}
@@ -15,14 +14,18 @@ returns c = rw (not-true (c .before .before .args .input) (c .if1 .taken))
 
 returns-2 : tie.Need-returns-2
 unfolding input-passes _⇒_ stays
-returns-2 c = rw (not-false (c .before .before .before .args .input) (c .before .if1 .left), decode-none _ (c .if2 .taken))
+returns-2 c =
+    let args = c .before .before .before .args in
+    rw (not-false (args .input) (c .before .if1 .left), decode-none _ (c .if2 .taken))
 
 get-requires : tie.Need-get-requires
 get-requires c κs = c .before .before .before .pre (c .if2 .left)
 
 returns-3 : tie.Need-returns-3
 unfolding input-passes _⇒_ stays
-returns-3 c = rw (not-false (c .before .before .before .before .args .input) (c .before .before .if1 .left), decode-some _ (c .before .if2 .left)) (c .get .ensures)
+returns-3 c =
+    let args = c .before .before .before .before .args in
+    rw (not-false (args .input) (c .before .before .if1 .left), decode-some _ (c .before .if2 .left)) (c .get .ensures)
 
 pub input-passes-spec : {M : Type 1} → statement M
 input-passes-spec = tie.close (tie.spec returns returns-2 get-requires returns-3)

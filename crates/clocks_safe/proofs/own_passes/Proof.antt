@@ -1,4 +1,3 @@
--- `clocks_safe::own_passes` meets its contract: each need, from the callees' contracts and the laws in the `use` lines.
 use borrow.Author.Needs.{needs}
 use native.Mathlib.Omega.{arith}
 use mathlib.Core.Path.{_≡_, sym, _∙_, ap, refl}

@@ -1,25 +1,23 @@
--- `clocks_safe::passes` meets its contract: each need, from the callees' contracts and the laws in the `use` lines.
-use native.Mathlib.Omega.{arith}
-use mathlib.Core.Path.{_≡_, sym, _∙_, ap, refl}
-use borrow.Author.Tests.{not-true, not-false}
-use Rattle.clocks_safe.specs.Test.{passes}
+-- An input that decides takes the state out; without one, a step of the system's own has to decide.
 use borrow.Author.Needs.{needs}
+use mathlib.Core.Path.{sym, _∙_}
+use Rattle.clocks_safe.specs.Test.{input-decides, own-decides}
 use Rattle.clocks_safe.proofs.passes.Statement.{statement}
 use Rattle.clocks_safe.proofs.passes.Tie as tie
 
-inputs-stay-requires : tie.Need-inputs-stay-requires
-inputs-stay-requires c κs = search needs
+some-decides-requires : tie.Need-some-decides-requires
+some-decides-requires c κs = search needs
 
 returns : tie.Need-returns
-unfolding passes
-returns c = rw (sym (c .before .inputs-stay .ensures), not-true (c .before .inputs-stay .result) (c .if1 .taken))
+returns c = sym (input-decides _ _ _ _ _ (sym (c .before .some-decides .ensures) ∙ c .if1 .taken))
 
-own-stays-requires : tie.Need-own-stays-requires
-own-stays-requires c κs = search needs
+some-decides-requires-2 : tie.Need-some-decides-requires-2
+some-decides-requires-2 c κs = search needs
 
 returns-2 : tie.Need-returns-2
-unfolding passes
-returns-2 c = rw (sym (c .before .before .inputs-stay .ensures), not-false (c .before .before .inputs-stay .result) (c .before .if1 .left)) (c .own-stays .ensures)
+returns-2 c =
+    let none = sym (c .before .before .some-decides .ensures) ∙ c .before .if1 .left in
+    c .some-decides2 .ensures ∙ sym (own-decides _ _ _ _ _ none)
 
 pub passes-spec : {M : Type 1} → statement M
-passes-spec = tie.close (tie.spec inputs-stay-requires returns own-stays-requires returns-2)
+passes-spec = tie.close (tie.spec some-decides-requires returns some-decides-requires-2 returns-2)

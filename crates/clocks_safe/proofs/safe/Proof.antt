@@ -1,4 +1,3 @@
--- `clocks_safe::safe` meets its contract: each need, from the callees' contracts and the laws in the `use` lines.
 use native.Mathlib.Omega.{arith}
 use mathlib.Core.Path.{_≡_, sym, _∙_, ap, refl}
 use Prim.Native.Nat.{ℕ, _+_, _-_, _*_, _/_, _%_, _^_, _≤_, _<_}
@@ -18,13 +17,30 @@ count-requires : tie.Need-count-requires
 count-requires c κs = search needs
 
 settle-requires : tie.Need-settle-requires
-settle-requires c κs = (c .before .before .before .before .before .before .before .before .before .before .before .pre .0, (c .before .before .before .before .before .before .before .before .before .before .before .pre .1 .0, copied-counted (c .before .before .before .before .before .before .before .before .before .before .before .args .keep .now) (c .before .before .before .before .before .before .before .before .before .before .before .pre .1 .1 .0) (c .before .before .before .before .before .before .before .before .before .before .before .pre .1 .1 .1) (c .before .before .before .before .before .copy .ensures) (c .before .count .ensures)))
+settle-requires c κs =
+    let args = c .before .before .before .before .before .before .before .before .before .before .before .args in
+    let pre = c .before .before .before .before .before .before .before .before .before .before .before .pre in
+    let copy-call = c .before .before .before .before .before .copy in (
+      pre .0,
+      (
+        pre .1 .0,
+        copied-counted (args .keep .now) (pre .1 .1 .0) (pre .1 .1 .1) (copy-call .ensures)
+            (c .before .count .ensures),
+      ),
+    )
 
 same-length : tie.Need-same-length
 same-length c = search needs
 
 returns : tie.Need-returns
-returns c = safe-answered (c .before .before .before .before .before .before .before .before .before .before .before .before .before .before .args .keep .now) (c .before .before .before .before .before .before .before .before .before .before .before .before .before .before .pre .1 .1 .0) (c .before .before .before .before .before .before .before .before .before .before .before .before .before .before .pre .1 .1 .1) (c .before .before .before .before .before .before .before .before .copy .ensures) (c .before .before .before .before .before .before .before .before .before .before .before .before .before .before .args .moves .now) (c .before .before .before .before .before .before .before .before .before .before .before .before .before .before .args .inputs .now) (c .before .before .settle .ensures)
+returns c =
+    let args = c .before .before .before .before .before .before .before .before .before .before .before .before .before
+    .before .args in
+    let pre = c .before .before .before .before .before .before .before .before .before .before .before .before .before
+    .before .pre in
+    let copy-call = c .before .before .before .before .before .before .before .before .copy in
+    safe-answered (args .keep .now) (pre .1 .1 .0) (pre .1 .1 .1) (copy-call .ensures) (args .moves .now)
+    (args .inputs .now) (c .before .before .settle .ensures)
 
 pub safe-spec : {M : Type 1} → statement M
 safe-spec =

@@ -1,4 +1,3 @@
--- `clocks_safe::settle` meets its contract: its loop by an invariant, from the callees' contracts and the laws in the `use` lines.
 use borrow.Author.Needs.{needs}
 use native.Mathlib.Omega.{arith}
 use mathlib.Core.Path.{_≡_, sym, _∙_, ap, refl, subst}
@@ -14,7 +13,9 @@ use Rattle.clocks_safe.proofs.settle.Statement.{statement}
 use Rattle.clocks_safe.proofs.settle.Tie as tie
 
 abbrev Inv-loop2 : tie.InvT-loop2
-Inv-loop2 keep₀ moves inputs n steps count left₀ before s₀ keep left s = (s ≤ n) × ((before ≡ left₀) × ((left ≤ before) × (((k₀ : List ℕ) → Held moves inputs n steps k₀ keep₀ left₀ → Held moves inputs n steps k₀ keep left) × (left ≡ before → Swept moves inputs n steps keep s))))
+Inv-loop2 keep₀ moves inputs n steps count left₀ before s₀ keep left s = (s ≤ n)
+    × ((before ≡ left₀) × ((left ≤ before) × (((k₀ : List ℕ) → Held moves inputs n steps k₀ keep₀ left₀
+    → Held moves inputs n steps k₀ keep left) × (left ≡ before → Swept moves inputs n steps keep s))))
 
 abbrev μ-loop2 : tie.MeasureT-loop2
 μ-loop2 keep₀ moves inputs n steps count left₀ before s₀ keep left s = s
@@ -35,29 +36,88 @@ sub-s : tie.Need-sub-s Inv-loop2 μ-loop2 Inv-loop μ-loop
 sub-s c = search needs
 
 visit-requires : tie.Need-visit-requires Inv-loop2 μ-loop2 Inv-loop μ-loop
-visit-requires c κs = ((c .before .before .before .before .before .before .before .pre .0), (c .before .before .before .before .before .before .before .pre .1 .0, ((let q : (c .before .before .loop2 .s - 1) < c .before .before .before .before .before .before .before .args .n = omega arith in q), omega (arith, packed-length ((c .before .before .loop2 .inv .1 .1 .1 .0 (c .before .before .before .before .before .before .before .args .keep .now) (c .before .before .before .loop .inv)) .is), (c .before .before .loop2 .inv .1 .1 .1 .0 (c .before .before .before .before .before .before .before .args .keep .now) (c .before .before .before .loop .inv)) .is .room))))
+visit-requires c κs =
+    let args = c .before .before .before .before .before .before .before .args in
+    let pre = c .before .before .before .before .before .before .before .pre in
+    let loop = c .before .before .before .loop in
+    let loop2-call = c .before .before .loop2 in (
+      (pre .0),
+      (
+        pre .1 .0,
+        (
+          (let q : (loop2-call .s - 1) < args .n = omega arith in q),
+          omega (
+            arith,
+            packed-length ((loop2-call .inv .1 .1 .1 .0 (args .keep .now) (loop .inv)) .is),
+            (loop2-call .inv .1 .1 .1 .0 (args .keep .now) (loop .inv)) .is .room,
+          ),
+        ),
+      ),
+    )
 
 sub-left : tie.Need-sub-left Inv-loop2 μ-loop2 Inv-loop μ-loop
-sub-left c = visit-count (c .before .before .before .before .before .before .before .before .before .before .pre .0) (c .before .before .before .before .before .loop2 .inv .1 .1 .1 .0 (c .before .before .before .before .before .before .before .before .before .before .args .keep .now) (c .before .before .before .before .before .before .loop .inv)) (c .before .before .before .before .before .loop2 .s - 1) (let q : (c .before .before .before .before .before .loop2 .s - 1) < c .before .before .before .before .before .before .before .before .before .before .args .n = omega arith in q) (c .before .before .visit .ensures) .0
+sub-left c =
+    let args = c .before .before .before .before .before .before .before .before .before .before .args in
+    let pre = c .before .before .before .before .before .before .before .before .before .before .pre in
+    let loop = c .before .before .before .before .before .before .loop in
+    let loop2-call = c .before .before .before .before .before .loop2 in
+    visit-count (pre .0) (loop2-call .inv .1 .1 .1 .0 (args .keep .now) (loop .inv)) (loop2-call .s - 1)
+    (let q : (loop2-call .s - 1) < args .n = omega arith in q) (c .before .before .visit .ensures) .0
 
 loop2-less : tie.Need-loop2-less Inv-loop2 μ-loop2 Inv-loop μ-loop
 loop2-less c = search needs
 
 loop2-again : tie.Need-loop2-again Inv-loop2 μ-loop2 Inv-loop μ-loop
-loop2-again c = let v = visit-count (c .before .before .before .before .before .before .before .before .before .before .pre .0) (c .before .before .before .before .before .loop2 .inv .1 .1 .1 .0 (c .before .before .before .before .before .before .before .before .before .before .args .keep .now) (c .before .before .before .before .before .before .loop .inv)) (c .before .before .before .before .before .loop2 .s - 1) (let q : (c .before .before .before .before .before .loop2 .s - 1) < c .before .before .before .before .before .before .before .before .before .before .args .n = omega arith in q) (c .before .before .visit .ensures) in
-    (omega arith, (refl, (omega arith, (λ k₀ H. visit-held (c .before .before .before .before .before .before .before .before .before .before .pre .0) (c .before .before .before .before .before .loop2 .inv .1 .1 .1 .0 k₀ H) (c .before .before .before .before .before .loop2 .s - 1) (let q : (c .before .before .before .before .before .loop2 .s - 1) < c .before .before .before .before .before .before .before .before .before .before .args .n = omega arith in q) (c .before .before .visit .ensures), λ e. let z : c .before .before .visit .result ≡ 0 = omega (arith, v .0, c .before .before .before .before .before .loop2 .inv .1 .1 .0) in let y : c .before .before .before .before .before .loop2 .left ≡ c .before .before .before .before .before .before .loop .left = omega (arith, v .0, c .before .before .before .before .before .loop2 .inv .1 .1 .0) in visit-swept (c .before .before .before .before .before .before .before .before .before .before .args .moves .now) (c .before .before .before .before .before .before .before .before .before .before .args .inputs .now) (c .before .before .before .before .before .before .before .before .before .before .args .n) (c .before .before .before .before .before .before .before .before .before .before .args .steps) (c .before .before .before .before .before .loop2 .s) (c .before .before .visit .ensures) z (c .before .before .before .before .loop2-test .taken) (c .before .before .before .before .before .loop2 .inv .1 .1 .1 .1 y)))))
+loop2-again c =
+    let args = c .before .before .before .before .before .before .before .before .before .before .args in
+    let pre = c .before .before .before .before .before .before .before .before .before .before .pre in
+    let loop = c .before .before .before .before .before .before .loop in
+    let loop2-call = c .before .before .before .before .before .loop2 in
+    let loop2-test-call = c .before .before .before .before .loop2-test in
+    let visit-call = c .before .before .visit in
+    let v = visit-count (pre .0) (loop2-call .inv .1 .1 .1 .0 (args .keep .now) (loop .inv)) (loop2-call .s - 1)
+    (let q : (loop2-call .s - 1) < args .n = omega arith in q) (visit-call .ensures) in (
+      omega arith,
+      (
+        refl,
+        (
+          omega arith,
+          (
+            λ k₀ H. visit-held (pre .0) (loop2-call .inv .1 .1 .1 .0 k₀ H)
+                (loop2-call .s - 1) (let q : (loop2-call .s - 1) < args .n = omega arith in q) (visit-call .ensures),
+            λ e.
+                let z : visit-call .result ≡ 0 = omega (arith, v .0, loop2-call .inv .1 .1 .0) in let y : loop2-call .left
+                ≡ loop .left = omega (arith, v .0, loop2-call .inv .1 .1 .0) in
+                visit-swept (args .moves .now) (args .inputs .now) (args .n) (args .steps) (loop2-call .s)
+                (visit-call .ensures) z (loop2-test-call .taken) (loop2-call .inv .1 .1 .1 .1 y),
+          ),
+        ),
+      ),
+    )
 
 loop-less : tie.Need-loop-less Inv-loop2 μ-loop2 Inv-loop μ-loop
 loop-less c = search needs
 
 loop-again : tie.Need-loop-again Inv-loop2 μ-loop2 Inv-loop μ-loop
-loop-again c = (c .before .before .loop2 .inv .1 .1 .1 .0 (c .before .before .before .before .before .before .before .args .keep .now) (c .before .before .before .loop .inv))
+loop-again c =
+    let args = c .before .before .before .before .before .before .before .args in
+    let loop = c .before .before .before .loop in
+    (c .before .before .loop2 .inv .1 .1 .1 .0 (args .keep .now) (loop .inv))
 
 same-length : tie.Need-same-length Inv-loop2 μ-loop2 Inv-loop μ-loop
-same-length c = packed-length ((c .before .before .loop2 .inv .1 .1 .1 .0 (c .before .before .before .before .before .before .before .args .keep .now) (c .before .before .before .loop .inv)) .is)
+same-length c =
+    let args = c .before .before .before .before .before .before .before .args in
+    let loop = c .before .before .before .loop in
+    packed-length ((c .before .before .loop2 .inv .1 .1 .1 .0 (args .keep .now) (loop .inv)) .is)
 
 returns : tie.Need-returns Inv-loop2 μ-loop2 Inv-loop μ-loop
-returns c = held-done (c .before .before .before .before .before .before .before .pre .0) (c .before .before .loop2 .inv .1 .1 .1 .0 (c .before .before .before .before .before .before .before .args .keep .now) (c .before .before .before .loop .inv)) (λ i q. c .before .before .loop2 .inv .1 .1 .1 .1 (c .if1 .taken) i (omega arith) q)
+returns c =
+    let args = c .before .before .before .before .before .before .before .args in
+    let pre = c .before .before .before .before .before .before .before .pre in
+    let loop = c .before .before .before .loop in
+    let loop2-call = c .before .before .loop2 in
+    held-done (pre .0) (loop2-call .inv .1 .1 .1 .0 (args .keep .now) (loop .inv))
+    (λ i q. loop2-call .inv .1 .1 .1 .1 (c .if1 .taken) i (omega arith) q)
 
 pub settle-spec : {M : Type 1} → statement M
 settle-spec =

@@ -1,4 +1,3 @@
--- `clocks_safe::visit` meets its contract: each need, from the callees' contracts and the laws in the `use` lines.
 use native.Mathlib.Omega.{arith}
 use mathlib.Core.Path.{_≡_, sym, _∙_, ap, refl}
 use mathlib.Core.Logic.{inl, inr}
@@ -16,7 +15,14 @@ same-length : tie.Need-same-length
 same-length c = search needs
 
 returns : tie.Need-returns
-returns c = inl (refl, refl, λ e. let z : _≡_ {A = ℕ} 0 1 = cc (e, c .before .get .ensures, not-true (c .before .get .result) (c .if1 .taken)) in absurd (omega arith))
+returns c =
+    let get-call = c .before .get in
+    inl (
+      refl,
+      refl,
+      λ e. let z : _≡_ {A = ℕ} 0 1 =
+          cc (e, get-call .ensures, not-true (get-call .result) (c .if1 .taken)) in absurd (omega arith),
+    )
 
 passes-requires : tie.Need-passes-requires
 passes-requires c κs = search needs
@@ -28,13 +34,27 @@ returns-2 : tie.Need-returns-2
 returns-2 c = inl (refl, refl, λ e. sym (c .before .passes .ensures) ∙ c .if2 .taken)
 
 clear-requires : tie.Need-clear-requires
-clear-requires c κs = (search needs, sym (c .before .before .before .before .before .get .ensures) ∙ not-false (c .before .before .before .before .before .get .result) (c .before .before .before .before .if1 .left))
+clear-requires c κs =
+    let get-call = c .before .before .before .before .before .get in
+    let if1 = c .before .before .before .before .if1 in
+    (search needs, sym (get-call .ensures) ∙ not-false (get-call .result) (if1 .left))
 
 same-length-3 : tie.Need-same-length-3
 same-length-3 c = search needs
 
 returns-3 : tie.Need-returns-3
-returns-3 c = inr (refl, c .before .before .clear .ensures, sym (c .before .before .before .before .before .before .before .before .get .ensures) ∙ not-false (c .before .before .before .before .before .before .before .before .get .result) (c .before .before .before .before .before .before .before .if1 .left), sym (c .before .before .before .before .before .passes .ensures) ∙ c .before .before .before .before .if2 .left)
+returns-3 c =
+    let get-call = c .before .before .before .before .before .before .before .before .get in
+    let if1 = c .before .before .before .before .before .before .before .if1 in
+    let passes-call = c .before .before .before .before .before .passes in
+    let if2 = c .before .before .before .before .if2 in
+    inr (
+      refl,
+      c .before .before .clear .ensures,
+      sym (get-call .ensures)
+          ∙ not-false (get-call .result) (if1 .left),
+      sym (passes-call .ensures) ∙ if2 .left,
+    )
 
 pub visit-spec : {M : Type 1} → statement M
 visit-spec =

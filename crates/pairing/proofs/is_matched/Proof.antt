@@ -34,10 +34,12 @@ do-agree-requires c κs = search needs
 returns-2 : tie.Need-returns-2
 returns-2 c =
     let a = c .before .before .before .before .before .before .before .before .before .args in
-    let d = c .before .before .before .before .partner-of .ensures in
+    let partner-of-call = c .before .before .before .before .partner-of in
+    let if1 = c .before .before .before .if1 in
+    let d = partner-of-call .ensures in
     c .do-agree .ensures
     ∙ rw (c .before .before .is-input-step .ensures, c .before .is-input-step2 .ensures)
-    (sym (matched-some (a .s .now) (a .t2) (a .u .now) (a .r) (a .c) _ d (c .before .before .before .if1 .left)))
+    (sym (matched-some (a .s .now) (a .t2) (a .u .now) (a .r) (a .c) _ d (if1 .left)))
 
 pub is-matched-spec : {M : Type 1} → statement M
 is-matched-spec =

@@ -9,7 +9,9 @@ unmatched-of-requires : tie.Need-unmatched-of-requires
 unmatched-of-requires c κs = search needs
 
 unmatched-of-requires-2 : tie.Need-unmatched-of-requires-2
-unmatched-of-requires-2 c κs = (c .before .before .before .pre .1, c .before .before .before .pre .0)
+unmatched-of-requires-2 c κs =
+    let pre = c .before .before .before .pre in
+    (pre .1, pre .0)
 
 verdict-of-requires : tie.Need-verdict-of-requires
 verdict-of-requires c κs = search needs
@@ -20,7 +22,14 @@ steps-of-requires c κs = search needs
 returns : tie.Need-returns
 unfolding pairing unmatched
 returns c =
-    rw (sym (c .before .before .before .unmatched-of .ensures), sym (c .before .before .unmatched-of2 .ensures), sym (c .before .verdict-of .ensures), sym (c .steps-of .ensures))
+    let unmatched-of-call = c .before .before .before .unmatched-of in
+    rw (
+      sym (unmatched-of-call .ensures),
+      sym (c .before .before .unmatched-of2 .ensures),
+      sym
+          (c .before .verdict-of .ensures),
+      sym (c .steps-of .ensures),
+    )
 
 pub pair-channels-spec : {M : Type 1} → statement M
 pair-channels-spec =

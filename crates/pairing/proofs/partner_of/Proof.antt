@@ -34,11 +34,15 @@ is-same-requires c κs = search needs
 returns : tie.Need-returns Inv-loop μ-loop
 returns c =
     let a = c .before .before .before .before .before .before .before .before .args in
-    sym (seek-finds (a .s .now) (a .name) (a .u .now) (a .t4) _ (omega arith) (sym (c .before .is-same .ensures) ∙ c .if1 .taken))
-    ∙ c .before .before .before .before .before .loop .inv .2
+    let loop = c .before .before .before .before .before .loop in
+    sym (seek-finds (a .s .now) (a .name) (a .u .now) (a .t4) _ (omega arith)
+    (sym (c .before .is-same .ensures) ∙ c .if1 .taken))
+    ∙ loop .inv .2
 
 add-d : tie.Need-add-d Inv-loop μ-loop
-add-d c = omega (arith, c .before .before .before .before .before .before .before .before .pre .channels)
+add-d c =
+    let pre = c .before .before .before .before .before .before .before .before .pre in
+    omega (arith, pre .channels)
 
 loop-less : tie.Need-loop-less Inv-loop μ-loop
 loop-less c = search needs
@@ -47,8 +51,12 @@ loop-again : tie.Need-loop-again Inv-loop μ-loop
 loop-again c =
     let a = c .before .before .before .before .before .before .before .before .args in
     let l = c .before .before .before .before .before .loop in
-    let no = sym (c .before .is-same .ensures) ∙ c .if1 .left in
-    (omega arith, omega arith, sym (seek-goes (a .s .now) (a .name) (a .u .now) (a .t4) (l .d) (omega arith) no) ∙ l .inv .2)
+    let no = sym (c .before .is-same .ensures) ∙ c .if1 .left in (
+      omega arith,
+      omega arith,
+      sym (seek-goes (a .s .now) (a .name) (a .u .now) (a .t4) (l .d) (omega arith) no)
+          ∙ l .inv .2,
+    )
 
 returns-2 : tie.Need-returns-2 Inv-loop μ-loop
 returns-2 c =

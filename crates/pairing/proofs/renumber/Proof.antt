@@ -30,19 +30,29 @@ rem-c : tie.Need-rem-c Inv-loop μ-loop
 rem-c c = search needs
 
 mul-d : tie.Need-mul-d Inv-loop μ-loop
-mul-d c = omega (arith, column (c .before .before .pre) (c .before .loop .p) (c .loop-test .taken), c .before .before .pre .few)
+mul-d c =
+    let pre = c .before .before .pre in
+    omega (arith, column (pre) (c .before .loop .p) (c .loop-test .taken), pre .few)
 
 array-read-d : tie.Need-array-read-d Inv-loop μ-loop
-array-read-d c = omega (arith, column (c .before .before .pre) (c .before .loop .p) (c .loop-test .taken), c .before .before .pre .few)
+array-read-d c =
+    let pre = c .before .before .pre in
+    omega (arith, column (pre) (c .before .loop .p) (c .loop-test .taken), pre .few)
 
 mul-dst : tie.Need-mul-dst Inv-loop μ-loop
-mul-dst c = omega (arith, place-in (c .before .before .pre) (c .before .loop .p) (c .loop-test .taken), c .before .before .pre .long)
+mul-dst c =
+    let pre = c .before .before .pre in
+    omega (arith, place-in (pre) (c .before .loop .p) (c .loop-test .taken), pre .long)
 
 add-dst : tie.Need-add-dst Inv-loop μ-loop
-add-dst c = omega (arith, place-in (c .before .before .pre) (c .before .loop .p) (c .loop-test .taken), c .before .before .pre .long)
+add-dst c =
+    let pre = c .before .before .pre in
+    omega (arith, place-in (pre) (c .before .loop .p) (c .loop-test .taken), pre .long)
 
 mul-dst-2 : tie.Need-mul-dst-2 Inv-loop μ-loop
-mul-dst-2 c = omega (arith, place-in (c .before .before .pre) (c .before .loop .p) (c .loop-test .taken), c .before .before .pre .long)
+mul-dst-2 c =
+    let pre = c .before .before .pre in
+    omega (arith, place-in (pre) (c .before .loop .p) (c .loop-test .taken), pre .long)
 
 shared-slice-read-dst : tie.Need-shared-slice-read-dst Inv-loop μ-loop
 shared-slice-read-dst c =
@@ -64,9 +74,11 @@ loop-less c = search needs
 loop-again : tie.Need-loop-again Inv-loop μ-loop
 unfolding renumbered
 loop-again c =
+    let args = c .before .before .before .args in
+    let pre = c .before .before .before .pre in
     let l = c .before .before .loop in
-    let d = c .before .before .before .args .dst .now in
-    let more = written-more _ (l .p) d _ (omega (arith, c .before .before .before .pre .room)) refl in
+    let d = args .dst .now in
+    let more = written-more _ (l .p) d _ (omega (arith, pre .room)) refl in
     (omega arith, simp length-set (l .inv .1), rw (l .inv .2) more)
 
 same-length : tie.Need-same-length Inv-loop μ-loop

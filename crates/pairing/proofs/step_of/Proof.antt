@@ -31,7 +31,8 @@ partner-of-requires c κs = search needs
 returns-3 : tie.Need-returns-3
 returns-3 c =
     let a = c .before .before .before .before .before .before .before .args in
-    c .partner-of .ensures ∙ sym (step-in (a .s .now) (a .t2) (a .u .now) (a .r) (a .c) (c .before .before .before .before .if1 .left) (omega arith))
+    let if1 = c .before .before .before .before .if1 in
+    c .partner-of .ensures ∙ sym (step-in (a .s .now) (a .t2) (a .u .now) (a .r) (a .c) (if1 .left) (omega arith))
 
 pub step-of-spec : {M : Type 1} → statement M
 step-of-spec =

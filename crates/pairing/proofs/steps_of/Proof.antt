@@ -37,9 +37,10 @@ loop-less c = search needs
 loop-again : tie.Need-loop-again Inv-loop μ-loop
 loop-again c =
     let a = c .before .before .before .before .before .args in
+    let loop = c .before .before .loop in
     let f = right-step (a .s .now) (a .l) (a .u .now) (a .r) in
-    let more = written-more f (c .before .before .loop .c) (replicate most-steps 0) _ (omega arith) (c .step-of .ensures) in
-    (omega arith, rw (c .before .before .loop .inv .1) more)
+    let more = written-more f (loop .c) (replicate most-steps 0) _ (omega arith) (c .step-of .ensures) in
+    (omega arith, rw (loop .inv .1) more)
 
 returns : tie.Need-returns Inv-loop μ-loop
 returns c =

@@ -1,4 +1,5 @@
--- `unmatched_of` returns the lowest unmatched channel: the invariant says that the search from c on is the whole search.
+-- `unmatched_of` returns the lowest unmatched channel: the invariant
+-- says that the search from c on is the whole search.
 use borrow.Author.Needs.{needs}
 use borrow.Author.Tests.{not-true, not-false}
 use native.Mathlib.Omega.{arith}
@@ -28,8 +29,10 @@ is-matched-requires c κs =
 returns : tie.Need-returns Inv-loop μ-loop
 returns c =
     let a = c .before .before .before .before .before .before .before .args in
-    let no = sym (c .before .is-matched .ensures) ∙ not-true (c .before .is-matched .result) (c .if2 .taken) in
-    sym (judge-finds (a .s .now) (a .l) (a .u .now) (a .r) _ (omega arith) no) ∙ c .before .before .before .before .loop .inv .2
+    let loop = c .before .before .before .before .loop in
+    let is-matched-call = c .before .is-matched in
+    let no = sym (is-matched-call .ensures) ∙ not-true (is-matched-call .result) (c .if2 .taken) in
+    sym (judge-finds (a .s .now) (a .l) (a .u .now) (a .r) _ (omega arith) no) ∙ loop .inv .2
 
 add-c : tie.Need-add-c Inv-loop μ-loop
 add-c c = omega (arith, c .before .before .before .before .before .before .before .pre .0 .channels)
@@ -41,8 +44,13 @@ loop-again : tie.Need-loop-again Inv-loop μ-loop
 loop-again c =
     let a = c .before .before .before .before .before .before .before .args in
     let i = c .before .before .before .before .loop in
-    let yes = sym (c .before .is-matched .ensures) ∙ not-false (c .before .is-matched .result) (c .if2 .left) in
-    (omega arith, omega arith, sym (judge-goes (a .s .now) (a .l) (a .u .now) (a .r) (i .c) (omega arith) yes) ∙ i .inv .2)
+    let is-matched-call = c .before .is-matched in
+    let yes = sym (is-matched-call .ensures) ∙ not-false (is-matched-call .result) (c .if2 .left) in (
+      omega arith,
+      omega arith,
+      sym (judge-goes (a .s .now) (a .l) (a .u .now) (a .r) (i .c) (omega arith) yes)
+          ∙ i .inv .2,
+    )
 
 returns-2 : tie.Need-returns-2 Inv-loop μ-loop
 returns-2 c =

@@ -14,8 +14,8 @@ next-requires c κs = search needs
 next-requires-2 : tie.Need-next-requires-2
 next-requires-2 c κs = search needs
 
-channels-requires : tie.Need-channels-requires
-channels-requires c κs = search needs
+items-requires : tie.Need-items-requires
+items-requires c κs = search needs
 
 returns : tie.Need-returns
 unfolding channel-part
@@ -25,7 +25,7 @@ returns c = rw (
   sym
       (c .before .before .next .ensures),
   sym (c .before .next2 .ensures),
-  c .channels .ensures,
+  c .items .ensures,
 )
 
 returns-2 : tie.Need-returns-2
@@ -35,4 +35,4 @@ returns-2 c = rw (sym (c .before .ahead .ensures), c .if1 .left)
 pub channel-part-spec : {M : Type 1} → statement M
 channel-part-spec =
     tie.close
-    (tie.spec ahead-requires next-requires next-requires-2 channels-requires returns returns-2)
+    (tie.spec ahead-requires next-requires next-requires-2 items-requires returns returns-2)

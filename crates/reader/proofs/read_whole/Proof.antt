@@ -1,7 +1,7 @@
 -- `read_whole` is `read-whole`, by the contracts of its parts.
 use borrow.Author.Needs.{needs}
 use mathlib.Core.Path.{sym}
-use Rattle.reader.specs.Reading.{start, read-whole}
+use Rattle.reader.specs.Reading.{read-whole}
 use Rattle.reader.proofs.read_whole.Statement.{statement}
 use Rattle.reader.proofs.read_whole.Tie as tie
 
@@ -14,8 +14,8 @@ channel-part-requires c κs = search needs
 process-part-requires : tie.Need-process-part-requires
 process-part-requires c κs = search needs
 
-clock-part-requires : tie.Need-clock-part-requires
-clock-part-requires c κs = search needs
+list-part-requires : tie.Need-list-part-requires
+list-part-requires c κs = search needs
 
 location-part-requires : tie.Need-location-part-requires
 location-part-requires c κs = search needs
@@ -23,8 +23,8 @@ location-part-requires c κs = search needs
 init-part-requires : tie.Need-init-part-requires
 init-part-requires c κs = search needs
 
-edge-part-requires : tie.Need-edge-part-requires
-edge-part-requires c κs = search needs
+list-part-requires-2 : tie.Need-list-part-requires-2
+list-part-requires-2 c κs = search needs
 
 end-part-requires : tie.Need-end-part-requires
 end-part-requires c κs = search needs
@@ -38,12 +38,12 @@ returns c = rw (
   sym
       (c .before .before .before .before .before .process-part .ensures),
   sym
-      (c .before .before .before .before .clock-part .ensures),
+      (c .before .before .before .before .list-part .ensures),
   sym
       (c .before .before .before .location-part .ensures),
   sym (c .before .before .init-part .ensures),
   sym
-      (c .before .edge-part .ensures),
+      (c .before .list-part2 .ensures),
   c .end-part .ensures,
 )
 
@@ -54,9 +54,9 @@ read-whole-spec =
     start-requires
     channel-part-requires
     process-part-requires
-    clock-part-requires
+    list-part-requires
     location-part-requires
     init-part-requires
-    edge-part-requires
+    list-part-requires-2
     end-part-requires
     returns)

@@ -17,8 +17,8 @@ no-amount-requires c κs = search needs
 enum-known-st-2 : tie.Need-enum-known-st-2
 enum-known-st-2 c = search needs
 
-token-at-requires : tie.Need-token-at-requires
-token-at-requires c κs = search needs
+scan-requires : tie.Need-scan-requires
+scan-requires c κs = search needs
 
 no-amount-requires-2 : tie.Need-no-amount-requires-2
 no-amount-requires-2 c κs = search needs
@@ -28,7 +28,7 @@ unfolding constant constant-of
 returns c = rw (
   c .before .before .before .before .before .st2 .given .1,
   sym
-      (c .before .before .before .token-at .ensures),
+      (c .before .before .before .scan .ensures),
   ne-eqb _ _ (c .before .if1 .taken),
   c .no-amount2 .ensures,
 )
@@ -44,7 +44,7 @@ unfolding constant constant-of
 returns-2 c = rw (
   c .before .before .before .before .before .before .before .st2 .given .1,
   sym
-      (c .before .before .before .before .before .token-at .ensures),
+      (c .before .before .before .before .before .scan .ensures),
   eq-eqb _ _
       (c .before .before .before .if1 .left),
   lt-ltb largest-constant _ (above _ (rw
@@ -60,11 +60,14 @@ returns-3 c = rw (c .before .before .st .given .1, c .no-amount .ensures)
 returns-4 : tie.Need-returns-4
 unfolding constant constant-of
 returns-4 c =
-    let v = c .before .number-at .ensures ∙ uncapped _ (rw (c .before .number-at .ensures) at (c .if2 .left)) in
+    let st2-call = c .before .before .before .before .before .before .st2 in
+    let scan-call = c .before .before .before .before .scan in
+    let number-at-call = c .before .number-at in
+    let v = number-at-call .ensures ∙ uncapped _ (rw (number-at-call .ensures) at (c .if2 .left)) in
     rw (
-      c .before .before .before .before .before .before .st2 .given .1,
+      st2-call .given .1,
       sym
-          (c .before .before .before .before .token-at .ensures),
+          (scan-call .ensures),
       eq-eqb _ _ (c .before .before .if1 .left),
       sym v,
       le-ltb largest-constant _ (c .if2 .left),
@@ -77,7 +80,7 @@ constant-spec =
     enum-known-st
     no-amount-requires
     enum-known-st-2
-    token-at-requires
+    scan-requires
     no-amount-requires-2
     returns
     number-at-requires

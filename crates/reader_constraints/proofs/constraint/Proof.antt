@@ -14,7 +14,8 @@ use Rattle.reader_constraints.proofs.constraint.Tie as tie
 
 abbrev Inv-loop : tie.InvT-loop
 Inv-loop s names invariant closing c₀ q₀ c q = (c .count ≤ comparison-limit) × (constraint-from
-    (comparison-limit - c .count) s names invariant closing q c ≡ constraint-from comparison-limit s names invariant closing q₀ no-constraint)
+    (comparison-limit - c .count) s names invariant closing q c
+    ≡ constraint-from comparison-limit s names invariant closing q₀ no-constraint)
 
 abbrev μ-loop : tie.MeasureT-loop
 μ-loop s names invariant closing c₀ q₀ c q = comparison-limit - c .count
@@ -32,8 +33,9 @@ comparison-requires c κs = search needs
 returns : tie.Need-returns Inv-loop μ-loop
 unfolding constraint
 returns c =
-    let full : comparison-limit - c .before .before .before .loop .c .count ≡ 0 = omega arith in
-    sym (turn-full _ _ _ _ _ _ (c .comparison .ensures)) ∙ rw full at (c .before .before .before .loop .inv .1)
+    let loop = c .before .before .before .loop in
+    let full : comparison-limit - loop .c .count ≡ 0 = omega arith in
+    sym (turn-full _ _ _ _ _ _ (c .comparison .ensures)) ∙ rw full at (loop .inv .1)
 
 comparison-requires-2 : tie.Need-comparison-requires-2 Inv-loop μ-loop
 comparison-requires-2 c κs = search needs
@@ -50,12 +52,15 @@ take-requires c κs = search needs
 returns-2 : tie.Need-returns-2 Inv-loop μ-loop
 unfolding constraint
 returns-2 c =
-    rw (c .take .ensures, c .before .before .before .with-comparison .ensures)
-    (sym (turn-last _ _ _ _ _ _ (c .before .before .before .before .before .comparison2 .ensures) _ (sym
+    let loop = c .before .before .before .before .before .before .before .before .loop in
+    let comparison2-call = c .before .before .before .before .before .comparison2 in
+    let with-comparison-call = c .before .before .before .with-comparison in
+    rw (c .take .ensures, with-comparison-call .ensures)
+    (sym (turn-last _ _ _ _ _ _ (comparison2-call .ensures) _ (sym
     (c .before .before .ahead .ensures) ∙ not-true _ (c .before .if2 .taken)))
     ∙ rw (room-left comparison-limit
-    (c .before .before .before .before .before .before .before .before .loop .c .count)
-    (omega arith)) at (c .before .before .before .before .before .before .before .before .loop .inv .1))
+    (loop .c .count)
+    (omega arith)) at (loop .inv .1))
 
 take-requires-2 : tie.Need-take-requires-2 Inv-loop μ-loop
 take-requires-2 c κs = search needs
@@ -67,13 +72,16 @@ loop-less c = rw (c .before .before .before .with-comparison .ensures) (omega ar
 loop-again : tie.Need-loop-again Inv-loop μ-loop
 unfolding with-comparison
 loop-again c =
-    rw (c .take2 .ensures, c .before .before .before .with-comparison .ensures) (
+    let loop = c .before .before .before .before .before .before .before .before .loop in
+    let comparison2-call = c .before .before .before .before .before .comparison2 in
+    let with-comparison-call = c .before .before .before .with-comparison in
+    rw (c .take2 .ensures, with-comparison-call .ensures) (
       omega arith,
-      sym (turn-more _ _ _ _ _ _ (c .before .before .before .before .before .comparison2 .ensures) _ (sym
+      sym (turn-more _ _ _ _ _ _ (comparison2-call .ensures) _ (sym
           (c .before .before .ahead .ensures) ∙ not-false _ (c .before .if2 .left)))
           ∙ rw (room-left comparison-limit
-          (c .before .before .before .before .before .before .before .before .loop .c .count)
-          (omega arith)) at (c .before .before .before .before .before .before .before .before .loop .inv .1),
+          (loop .c .count)
+          (omega arith)) at (loop .inv .1),
     )
 
 pub constraint-spec : {M : Type 1} → statement M

@@ -15,14 +15,14 @@ no-sign-requires c κs = search needs
 enum-known-st-2 : tie.Need-enum-known-st-2
 enum-known-st-2 c = search needs
 
-token-at-requires : tie.Need-token-at-requires
-token-at-requires c κs = search needs
+scan-requires : tie.Need-scan-requires
+scan-requires c κs = search needs
 
 returns : tie.Need-returns
 unfolding sign-next sign-of
 returns c = rw (
   c .before .before .before .st2 .given .1,
-  sym (c .before .token-at .ensures),
+  sym (c .before .scan .ensures),
   eq-eqb _ _
       (c .if1 .taken),
 )
@@ -35,7 +35,7 @@ unfolding sign-next sign-of
 returns-2 c = rw (
   c .before .before .before .before .before .st2 .given .1,
   sym
-      (c .before .before .before .token-at .ensures),
+      (c .before .before .before .scan .ensures),
   ne-eqb _ 15421 (c .before .before .if1 .left),
   c .before .if2 .taken,
   c .no-sign2 .ensures,
@@ -46,7 +46,7 @@ unfolding sign-next sign-of
 returns-3 c = rw (
   c .before .before .before .before .before .st2 .given .1,
   sym
-      (c .before .before .before .token-at .ensures),
+      (c .before .before .before .scan .ensures),
   c .if3 .taken,
   c .before .if2 .left,
 )
@@ -56,7 +56,7 @@ unfolding sign-next sign-of
 returns-4 c = rw (
   c .before .before .before .before .before .before .st2 .given .1,
   sym
-      (c .before .before .before .before .token-at .ensures),
+      (c .before .before .before .before .scan .ensures),
   c .if4 .taken,
   c .before .before .if2 .left,
 )
@@ -73,7 +73,7 @@ unfolding sign-next sign-of
 returns-6 c = rw (
   c .before .before .before .before .before .before .before .st2 .given .1,
   sym
-      (c .before .before .before .before .before .token-at .ensures),
+      (c .before .before .before .before .before .scan .ensures),
   ne-eqb _ 15421
       (c .before .before .before .before .if1 .left),
   c .before .before .before .if2 .left,
@@ -90,7 +90,7 @@ sign-next-spec =
     enum-known-st
     no-sign-requires
     enum-known-st-2
-    token-at-requires
+    scan-requires
     returns
     no-sign-requires-2
     returns-2

@@ -34,21 +34,29 @@ take-requires-3 c κs = search needs
 
 returns : tie.Need-returns
 unfolding edge-next
-returns c = rw (
-  sym (c .before .before .before .before .before .before .before .before .before .use-name .ensures),
-  sym (c .before .before .before .before .before .before .before .before .take .ensures),
-  sym
-      (c .before .before .before .before .before .before .before .use-name2 .ensures),
-  sym
-      (c .before .before .before .before .before .before .take2 .ensures),
-  sym
-      (c .before .before .before .before .before .guard .ensures),
-  sym
-      (c .before .before .before .before .label-next .ensures),
-  sym (c .before .before .before .assigns .ensures),
-  sym
-      (c .before .before .take3 .ensures),
-)
+returns c =
+    let use-name-call = c .before .before .before .before .before .before .before .before .before .use-name in
+    let take-call = c .before .before .before .before .before .before .before .before .take in
+    let use-name2-call = c .before .before .before .before .before .before .before .use-name2 in
+    let take2-call = c .before .before .before .before .before .before .take2 in
+    let guard-call = c .before .before .before .before .before .guard in
+    let label-next-call = c .before .before .before .before .label-next in
+    let assigns-call = c .before .before .before .assigns in
+    rw (
+      sym (use-name-call .ensures),
+      sym (take-call .ensures),
+      sym
+          (use-name2-call .ensures),
+      sym
+          (take2-call .ensures),
+      sym
+          (guard-call .ensures),
+      sym
+          (label-next-call .ensures),
+      sym (assigns-call .ensures),
+      sym
+          (c .before .before .take3 .ensures),
+    )
 
 pub edge-next-spec : {M : Type 1} → statement M
 edge-next-spec =

@@ -31,7 +31,9 @@ take-requires-2 : tie.Need-take-requires-2
 take-requires-2 c κs = search needs
 
 label-of-requires : tie.Need-label-of-requires
-label-of-requires c κs = rw (c .before .before .before .before .before .use-name .ensures) (use-small _ _ 1 16 false
+label-of-requires c κs =
+    let use-name-call = c .before .before .before .before .before .use-name in
+    rw (use-name-call .ensures) (use-small _ _ 1 16 false
     (omega arith) _)
 
 returns : tie.Need-returns

@@ -15,14 +15,14 @@ no-mark-requires c κs = search needs
 enum-known-st-2 : tie.Need-enum-known-st-2
 enum-known-st-2 c = search needs
 
-token-at-requires : tie.Need-token-at-requires
-token-at-requires c κs = search needs
+scan-requires : tie.Need-scan-requires
+scan-requires c κs = search needs
 
 returns : tie.Need-returns
 unfolding mark-next mark-of
 returns c = rw (
   c .before .before .before .st2 .given .1,
-  sym (c .before .token-at .ensures),
+  sym (c .before .scan .ensures),
   eq-eqb _ _
       (c .if1 .taken),
 )
@@ -31,7 +31,7 @@ returns-2 : tie.Need-returns-2
 unfolding mark-next mark-of
 returns-2 c = rw (
   c .before .before .before .before .st2 .given .1,
-  sym (c .before .before .token-at .ensures),
+  sym (c .before .before .scan .ensures),
   c .if2 .taken,
 )
 
@@ -47,7 +47,7 @@ unfolding mark-next mark-of
 returns-4 c = rw (
   c .before .before .before .before .before .st2 .given .1,
   sym
-      (c .before .before .before .token-at .ensures),
+      (c .before .before .before .scan .ensures),
   ne-eqb _ 63 (c .before .before .if1 .left),
   ne-eqb _ 33
       (c .before .if2 .left),
@@ -61,7 +61,7 @@ mark-next-spec =
     enum-known-st
     no-mark-requires
     enum-known-st-2
-    token-at-requires
+    scan-requires
     returns
     returns-2
     no-mark-requires-2

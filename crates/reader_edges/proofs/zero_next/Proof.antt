@@ -13,14 +13,14 @@ enum-known-st c = search needs
 enum-known-st-2 : tie.Need-enum-known-st-2
 enum-known-st-2 c = search needs
 
-token-at-requires : tie.Need-token-at-requires
-token-at-requires c κs = search needs
+scan-requires : tie.Need-scan-requires
+scan-requires c κs = search needs
 
 returns : tie.Need-returns
 unfolding zero-next zero-of
 returns c = rw (
   c .before .before .before .before .st2 .given .1,
-  sym (c .before .before .token-at .ensures),
+  sym (c .before .before .scan .ensures),
   ne-eqb _ _ (c .if1 .taken),
 )
 
@@ -32,7 +32,7 @@ unfolding zero-next zero-of
 returns-2 c = rw (
   c .before .before .before .before .before .before .st2 .given .1,
   sym
-      (c .before .before .before .before .token-at .ensures),
+      (c .before .before .before .before .scan .ensures),
   eq-eqb _ _ (c .before .before .if1 .left),
   ne-eqb _ 0
       (λ z. c .if2 .taken (c .before .number-at .ensures ∙ zero-capped _ z)),
@@ -47,7 +47,7 @@ unfolding zero-next zero-of
 returns-4 c = rw (
   c .before .before .before .before .before .before .st2 .given .1,
   sym
-      (c .before .before .before .before .token-at .ensures),
+      (c .before .before .before .before .scan .ensures),
   eq-eqb _ _ (c .before .before .if1 .left),
   eq-eqb _ 0
       (capped-zero _ (sym (c .before .number-at .ensures) ∙ c .if2 .left)),
@@ -59,7 +59,7 @@ zero-next-spec =
     (tie.spec
     enum-known-st
     enum-known-st-2
-    token-at-requires
+    scan-requires
     returns
     number-at-requires
     returns-2

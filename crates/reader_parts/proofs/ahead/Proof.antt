@@ -11,8 +11,8 @@ enum-told c = search needs
 enum-known-st : tie.Need-enum-known-st
 enum-known-st c = search needs
 
-token-at-requires : tie.Need-token-at-requires
-token-at-requires c κs = search needs
+scan-requires : tie.Need-scan-requires
+scan-requires c κs = search needs
 
 returns : tie.Need-returns
 unfolding ahead
@@ -20,7 +20,7 @@ returns c = rw (c .enum-told .given .1)
 
 returns-2 : tie.Need-returns-2
 unfolding ahead
-returns-2 c = rw (c .before .before .before .st .given .1, sym (c .before .token-at .ensures))
+returns-2 c = rw (c .before .before .before .st .given .1, sym (c .before .scan .ensures))
 
 pub ahead-spec : {M : Type 1} → statement M
-ahead-spec = tie.close (tie.spec enum-told enum-known-st token-at-requires returns returns-2)
+ahead-spec = tie.close (tie.spec enum-told enum-known-st scan-requires returns returns-2)

@@ -30,11 +30,14 @@ is-same-requires c κs = search needs
 
 returns : tie.Need-returns Inv-loop μ-loop
 unfolding slot-of differs
-returns c = sym (past-no (differs (c .before .before .before .before .before .before .args .s .now)
-    (c .before .before .before .before .before .before .args .name))
-    (c .before .before .before .before .before .before .args .t2) (c .before .before .before .before .loop .i)
+returns c =
+    let args = c .before .before .before .before .before .before .args in
+    let loop = c .before .before .before .before .loop in
+    sym (past-no (differs (args .s .now)
+    (args .name))
+    (args .t2) (loop .i)
     (record { place = 0; len = 0 }) (omega arith) (rw (sym (c .before .is-same .ensures), c .if1 .taken)))
-    ∙ c .before .before .before .before .loop .inv
+    ∙ loop .inv
 
 add-i : tie.Need-add-i Inv-loop μ-loop
 add-i c = search needs
@@ -44,15 +47,20 @@ loop-less c = search needs
 
 loop-again : tie.Need-loop-again Inv-loop μ-loop
 unfolding slot-of differs
-loop-again c = sym (past-yes (differs (c .before .before .before .before .before .before .args .s .now)
-    (c .before .before .before .before .before .before .args .name))
-    (c .before .before .before .before .before .before .args .t2) (c .before .before .before .before .loop .i)
+loop-again c =
+    let args = c .before .before .before .before .before .before .args in
+    let loop = c .before .before .before .before .loop in
+    sym (past-yes (differs (args .s .now)
+    (args .name))
+    (args .t2) (loop .i)
     (record { place = 0; len = 0 }) (omega arith) (rw (sym (c .before .is-same .ensures), c .if1 .left)))
-    ∙ c .before .before .before .before .loop .inv
+    ∙ loop .inv
 
 returns-2 : tie.Need-returns-2 Inv-loop μ-loop
 unfolding slot-of
-returns-2 c = sym (past-end (differs _ _) _ (c .before .loop .i) (omega arith)) ∙ c .before .loop .inv
+returns-2 c =
+    let loop = c .before .loop in
+    sym (past-end (differs _ _) _ (loop .i) (omega arith)) ∙ loop .inv
 
 pub find-spec : {M : Type 1} → statement M
 find-spec =

@@ -17,8 +17,8 @@ no-name-read-requires c κs = search needs
 enum-known-st-2 : tie.Need-enum-known-st-2
 enum-known-st-2 c = search needs
 
-token-at-requires : tie.Need-token-at-requires
-token-at-requires c κs = search needs
+scan-requires : tie.Need-scan-requires
+scan-requires c κs = search needs
 
 no-name-read-requires-2 : tie.Need-no-name-read-requires-2
 no-name-read-requires-2 c κs = search needs
@@ -28,7 +28,7 @@ unfolding name-next name-of
 returns c = rw (
   c .before .before .before .before .before .st2 .given .1,
   sym
-      (c .before .before .before .token-at .ensures),
+      (c .before .before .before .scan .ensures),
   ne-eqb _ _ (c .before .if1 .taken),
   c .no-name-read2 .ensures,
 )
@@ -44,7 +44,7 @@ unfolding name-next name-of
 returns-2 c = rw (
   c .before .before .before .before .before .before .before .st2 .given .1,
   sym
-      (c .before .before .before .before .before .token-at .ensures),
+      (c .before .before .before .before .before .scan .ensures),
   eq-eqb _ _
       (c .before .before .before .if1 .left),
   sym (c .before .before .length .ensures),
@@ -62,7 +62,7 @@ unfolding name-next name-of
 returns-4 c = rw (
   c .before .before .before .before .before .before .st2 .given .1,
   sym
-      (c .before .before .before .before .token-at .ensures),
+      (c .before .before .before .before .scan .ensures),
   eq-eqb _ _ (c .before .before .if1 .left),
   sym
       (c .before .length .ensures),
@@ -76,7 +76,7 @@ name-next-spec =
     enum-known-st
     no-name-read-requires
     enum-known-st-2
-    token-at-requires
+    scan-requires
     no-name-read-requires-2
     returns
     length-requires

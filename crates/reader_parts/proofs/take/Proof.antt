@@ -12,14 +12,14 @@ enum-known-st c = search needs
 enum-known-st-2 : tie.Need-enum-known-st-2
 enum-known-st-2 c = search needs
 
-token-at-requires : tie.Need-token-at-requires
-token-at-requires c κs = search needs
+scan-requires : tie.Need-scan-requires
+scan-requires c κs = search needs
 
 returns : tie.Need-returns
 unfolding take
 returns c = rw (
   c .before .before .before .before .st2 .given .1,
-  sym (c .before .before .token-at .ensures),
+  sym (c .before .before .scan .ensures),
   eq-eqb _ _ (c .if1 .taken),
 )
 
@@ -31,11 +31,11 @@ returns-3 : tie.Need-returns-3
 unfolding take
 returns-3 c = rw (
   c .before .before .before .before .st2 .given .1,
-  sym (c .before .before .token-at .ensures),
+  sym (c .before .before .scan .ensures),
   ne-eqb _ _ (c .if1 .left),
 )
 
 pub take-spec : {M : Type 1} → statement M
 take-spec =
     tie.close
-    (tie.spec enum-known-st enum-known-st-2 token-at-requires returns returns-2 returns-3)
+    (tie.spec enum-known-st enum-known-st-2 scan-requires returns returns-2 returns-3)

@@ -57,17 +57,22 @@ no-use-requires-4 c κs = search needs
 
 returns-3 : tie.Need-returns-3
 unfolding use-name use-of
-returns-3 c = rw (
-  sym
-      (c .before .before .before .before .before .before .before .before .before .name-next .ensures),
-  c .before .before .before .before .before .before .came2 .given .1,
-  sym
-      (c .before .before .before .before .find .ensures),
-  le-leb _ _ (c .before .before .before .if1 .left),
-  lt-ltb _ _ (c .before .before .if2 .left),
-  c .before .if3 .taken,
-  c .no-use4 .ensures,
-)
+returns-3 c =
+    let name-next-call = c .before .before .before .before .before .before .before .before .before .name-next in
+    let came2-call = c .before .before .before .before .before .before .came2 in
+    let find-call = c .before .before .before .before .find in
+    let if1 = c .before .before .before .if1 in
+    rw (
+      sym
+          (name-next-call .ensures),
+      came2-call .given .1,
+      sym
+          (find-call .ensures),
+      le-leb _ _ (if1 .left),
+      lt-ltb _ _ (c .before .before .if2 .left),
+      c .before .if3 .taken,
+      c .no-use4 .ensures,
+    )
 
 returns-4 : tie.Need-returns-4
 unfolding use-name use-of

@@ -22,9 +22,11 @@ returns c = sym (agree-left _ (c .before .before .loop .i) _ (c .before .before 
     (c .before .before .loop .left) (omega arith) (omega arith)) ∙ c .before .before .loop .inv
 
 returns-2 : tie.Need-returns-2 Inv-loop μ-loop
-returns-2 c = sym (agree-right _ (c .before .before .before .loop .i) _ (c .before .before .before .loop .j)
-    (c .before .before .before .loop .left) (omega arith) (omega arith) (omega arith))
-    ∙ c .before .before .before .loop .inv
+returns-2 c =
+    let loop = c .before .before .before .loop in
+    sym (agree-right _ (loop .i) _ (loop .j)
+    (loop .left) (omega arith) (omega arith) (omega arith))
+    ∙ loop .inv
 
 shared-slice-read-if3 : tie.Need-shared-slice-read-if3 Inv-loop μ-loop
 shared-slice-read-if3 c = search needs

@@ -26,9 +26,11 @@ is-digit-requires : tie.Need-is-digit-requires Inv-loop μ-loop
 is-digit-requires c κs = search needs
 
 returns : tie.Need-returns Inv-loop μ-loop
-returns c = sym (capped-small _ (c .before .before .before .before .loop .inv .0)) ∙ ap capped (sym (value-no _
-    (c .before .before .before .before .loop .i) _ (omega arith) (sym (c .before .is-digit .ensures) ∙ not-true _
-    (c .if1 .taken)))) ∙ c .before .before .before .before .loop .inv .1
+returns c =
+    let loop = c .before .before .before .before .loop in
+    sym (capped-small _ (loop .inv .0)) ∙ ap capped (sym (value-no _
+    (loop .i) _ (omega arith) (sym (c .before .is-digit .ensures) ∙ not-true _
+    (c .if1 .taken)))) ∙ loop .inv .1
 
 with-digit-requires : tie.Need-with-digit-requires Inv-loop μ-loop
 with-digit-requires c κs = (search needs, sym (c .before .is-digit .ensures) ∙ not-false _ (c .if1 .left))
@@ -49,8 +51,10 @@ loop-again c = rw (c .with-digit .ensures) (
 )
 
 returns-2 : tie.Need-returns-2 Inv-loop μ-loop
-returns-2 c = sym (capped-small _ (c .before .loop .inv .0)) ∙ ap capped (sym (value-end _ (c .before .loop .i) _
-    (omega arith))) ∙ c .before .loop .inv .1
+returns-2 c =
+    let loop = c .before .loop in
+    sym (capped-small _ (loop .inv .0)) ∙ ap capped (sym (value-end _ (loop .i) _
+    (omega arith))) ∙ loop .inv .1
 
 pub number-at-spec : {M : Type 1} → statement M
 number-at-spec =

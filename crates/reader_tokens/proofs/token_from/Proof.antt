@@ -28,8 +28,8 @@ returns c = rw (
 is-digit-requires : tie.Need-is-digit-requires
 is-digit-requires c κs = search needs
 
-digit-end-requires : tie.Need-digit-end-requires
-digit-end-requires c κs = search needs
+run-end-requires : tie.Need-run-end-requires
+run-end-requires c κs = search needs
 
 returns-2 : tie.Need-returns-2
 unfolding token-from
@@ -41,7 +41,7 @@ returns-2 c = rw (
   sym
       (c .before .before .is-digit .ensures),
   c .before .if3 .taken,
-  c .digit-end .ensures,
+  c .run-end .ensures,
 )
 
 mark-at-requires : tie.Need-mark-at-requires
@@ -73,7 +73,7 @@ token-from-spec =
     word-at-requires
     returns
     is-digit-requires
-    digit-end-requires
+    run-end-requires
     returns-2
     mark-at-requires
     returns-3

@@ -19,7 +19,9 @@ add-n : tie.Need-add-n
 add-n c = record { fits = omega (arith, digit-low (c .before .args .b) (c .before .pre .1), c .wide .ensures) }
 
 returns : tie.Need-returns
-returns c = rw (c .before .wide .ensures) (sym (capped-low _ (rw (c .before .wide .ensures) at (c .if1 .taken))))
+returns c =
+    let wide-call = c .before .wide in
+    rw (wide-call .ensures) (sym (capped-low _ (rw (wide-call .ensures) at (c .if1 .taken))))
 
 returns-2 : tie.Need-returns-2
 returns-2 c = sym (capped-high _ (rw (c .before .wide .ensures) at (c .if1 .left)))

@@ -1,4 +1,3 @@
--- `safe_states::found` meets its contract: each need, from the callees' contracts and the laws in the `use` lines.
 use borrow.Author.Needs.{needs}
 use mathlib.Core.Path.{ap}
 use native.Mathlib.Omega.{arith}
@@ -19,19 +18,49 @@ slice-aggregate-safe : tie.Need-slice-aggregate-safe
 slice-aggregate-safe c = search needs
 
 safe-requires : tie.Need-safe-requires
-safe-requires c κs = (ready-bounded (c .before .before .before .before .before .before .before .pre), (omega (arith, c .before .before .before .before .before .before .before .pre .accepted .formed .channels, ap length (c .before .before .before .inputs-of .ensures), length-tab (input (c .before .before .before .before .before .before .before .args .t)) 0 17), (ready-bitmap (c .before .before .before .before .before .before .before .pre), omega (arith, c .before .before .before .before .before .before .before .pre .long, c .before .before .before .before .before .before .before .pre .count))))
+safe-requires c κs =
+    let args = c .before .before .before .before .before .before .before .args in
+    let pre = c .before .before .before .before .before .before .before .pre in
+    let inputs-of-call = c .before .before .before .inputs-of in (
+      ready-bounded (pre),
+      (
+        omega (
+          arith,
+          pre .accepted .formed .channels,
+          ap length (inputs-of-call .ensures),
+          length-tab (input (args .t)) 0 17,
+        ),
+        (ready-bitmap (pre), omega (arith, pre .long, pre .count)),
+      ),
+    )
 
 start-of-requires : tie.Need-start-of-requires
-start-of-requires c κs = (c .before .before .before .before .before .before .before .before .before .before .pre .accepted .formed, ready-few (c .before .before .before .before .before .before .before .before .before .before .pre))
+start-of-requires c κs =
+    let pre = c .before .before .before .before .before .before .before .before .before .before .pre in
+    (pre .accepted .formed, ready-few (pre))
 
 get-requires : tie.Need-get-requires
-get-requires c κs = ready-start (c .before .before .before .before .before .before .before .before .before .before .before .before .pre) _ (ready-safe (c .before .before .before .before .before .before .before .before .before .before .before .before .pre) (c .before .before .before .before .before .before .before .before .inputs-of .result) _ (c .before .before .before .before .safe .result) (c .before .before .before .before .before .before .before .before .inputs-of .ensures) (c .before .before .before .before .safe .ensures) .0) _ (c .before .start-of .ensures)
+get-requires c κs =
+    let pre = c .before .before .before .before .before .before .before .before .before .before .before .before .pre in
+    let inputs-of-call = c .before .before .before .before .before .before .before .before .inputs-of in
+    let safe-call = c .before .before .before .before .safe in
+    ready-start (pre) _ (ready-safe (pre) (inputs-of-call .result) _ (safe-call .result) (inputs-of-call .ensures)
+    (safe-call .ensures) .0) _ (c .before .start-of .ensures)
 
 same-length : tie.Need-same-length
 same-length c = search needs
 
 returns : tie.Need-returns
-returns c = ready-found (c .before .before .before .before .before .before .before .before .before .before .before .before .before .pre) _ (ready-safe (c .before .before .before .before .before .before .before .before .before .before .before .before .before .pre) (c .before .before .before .before .before .before .before .before .before .inputs-of .result) _ (c .before .before .before .before .before .safe .result) (c .before .before .before .before .before .before .before .before .before .inputs-of .ensures) (c .before .before .before .before .before .safe .ensures) .0) (c .before .before .start-of .result) (c .before .before .before .before .before .safe .result) (c .get .result) (c .before .before .start-of .ensures) (ready-safe (c .before .before .before .before .before .before .before .before .before .before .before .before .before .pre) (c .before .before .before .before .before .before .before .before .before .inputs-of .result) _ (c .before .before .before .before .before .safe .result) (c .before .before .before .before .before .before .before .before .before .inputs-of .ensures) (c .before .before .before .before .before .safe .ensures) .1) (c .get .ensures)
+returns c =
+    let pre = c .before .before .before .before .before .before .before .before .before .before .before .before .before
+    .pre in
+    let inputs-of-call = c .before .before .before .before .before .before .before .before .before .inputs-of in
+    let safe-call = c .before .before .before .before .before .safe in
+    let start-of-call = c .before .before .start-of in
+    ready-found (pre) _ (ready-safe (pre) (inputs-of-call .result) _ (safe-call .result) (inputs-of-call .ensures)
+    (safe-call .ensures) .0) (start-of-call .result) (safe-call .result) (c .get .result) (start-of-call .ensures)
+    (ready-safe (pre) (inputs-of-call .result) _ (safe-call .result) (inputs-of-call .ensures) (safe-call .ensures)
+    .1) (c .get .ensures)
 
 pub found-spec : {M : Type 1} → statement M
 found-spec =

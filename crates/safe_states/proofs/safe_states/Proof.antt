@@ -1,4 +1,3 @@
--- `safe_states::safe_states` meets its contract: each need, from the callees' contracts and the laws in the `use` lines.
 use borrow.Author.Needs.{needs}
 use native.Mathlib.Omega.{arith}
 use Rattle.safe_states.specs.Paths.{safe-refused, few-states, safe-short, safe-found, safe-ready}
@@ -27,10 +26,22 @@ enum-told : tie.Need-enum-told
 enum-told c = search needs
 
 add-need : tie.Need-add-need
-add-need c = omega (arith, few-states (c .before .before .before .before .before .before .before .before .before .before .before .args .text .now) (c .before .before .before .before .before .before .before .before .before .before .before .args .keep .now) _ _ (c .before .before .before .before .load .result) _ _ (c .before .before .before .before .load .ensures) (c .enum-told .given .1))
+add-need c =
+    let args = c .before .before .before .before .before .before .before .before .before .before .before .args in
+    let load-call = c .before .before .before .before .load in
+    omega (
+      arith,
+      few-states (args .text .now) (args .keep .now) _ _ (load-call .result) _ _ (load-call .ensures)
+          (c .enum-told .given .1),
+    )
 
 returns : tie.Need-returns
-returns c = safe-short (c .before .before .before .before .before .before .before .before .before .before .before .before .args .text .now) (c .before .before .before .before .before .before .before .before .before .before .before .before .args .keep .now) _ _ (c .before .before .before .before .before .load .result) _ _ (c .before .before .before .before .before .load .ensures) (c .before .enum-told .given .1) (c .if1 .taken)
+returns c =
+    let args = c .before .before .before .before .before .before .before .before .before .before .before .before .args
+    in
+    let load-call = c .before .before .before .before .before .load in
+    safe-short (args .text .now) (args .keep .now) _ _ (load-call .result) _ _ (load-call .ensures)
+    (c .before .enum-told .given .1) (c .if1 .taken)
 
 slice-aggregate-found : tie.Need-slice-aggregate-found
 slice-aggregate-found c = search needs
@@ -39,16 +50,41 @@ slice-aggregate-found-2 : tie.Need-slice-aggregate-found-2
 slice-aggregate-found-2 c = search needs
 
 found-requires : tie.Need-found-requires
-found-requires c κs = safe-ready (c .before .before .before .before .before .before .before .before .before .before .before .before .before .before .before .before .args .text .now) (c .before .before .before .before .before .before .before .before .before .before .before .before .before .before .before .before .args .keep .now) _ _ (c .before .before .before .before .before .before .before .before .before .load .result) _ _ (c .before .before .before .before .before .before .before .before .before .load .ensures) (c .before .before .before .before .before .enum-told .given .1) (omega (arith, c .before .before .before .before .before .before .before .before .before .before .before .before .before .no-moves .ensures)) (omega (arith, c .before .before .before .before .before .before .before .before .before .before .before .before .no-states .ensures)) (c .before .before .before .before .if1 .left)
+found-requires c κs =
+    let args = c .before .before .before .before .before .before .before .before .before .before .before .before .before
+    .before .before .before .args in
+    let no-moves-call = c .before .before .before .before .before .before .before .before .before .before .before
+    .before .before .no-moves in
+    let no-states-call = c .before .before .before .before .before .before .before .before .before .before .before
+    .before .no-states in
+    let load-call = c .before .before .before .before .before .before .before .before .before .load in
+    let enum-told-call = c .before .before .before .before .before .enum-told in
+    let if1 = c .before .before .before .before .if1 in
+    safe-ready (args .text .now) (args .keep .now) _ _ (load-call .result) _ _ (load-call .ensures)
+    (enum-told-call .given .1) (omega (arith, no-moves-call .ensures)) (omega (arith, no-states-call .ensures))
+    (if1 .left)
 
 returns-2 : tie.Need-returns-2
-returns-2 c = safe-refused (c .before .before .before .before .before .before .before .before .before .before .before .before .args .text .now) (c .before .before .before .before .before .before .before .before .before .before .before .before .args .keep .now) _ _ (c .before .before .before .before .before .load .result) _ _ (c .before .before .before .before .before .load .ensures) _ (c .before .answer .given .1)
+returns-2 c =
+    let args = c .before .before .before .before .before .before .before .before .before .before .before .before .args
+    in
+    let load-call = c .before .before .before .before .before .load in
+    safe-refused (args .text .now) (args .keep .now) _ _ (load-call .result) _ _ (load-call .ensures) _
+    (c .before .answer .given .1)
 
 same-length : tie.Need-same-length
 same-length c = search needs
 
 returns-3 : tie.Need-returns-3
-returns-3 c = safe-found (c .before .before .before .before .before .before .before .before .before .before .before .before .before .before .before .before .before .before .before .args .text .now) (c .before .before .before .before .before .before .before .before .before .before .before .before .before .before .before .before .before .before .before .args .keep .now) _ _ (c .before .before .before .before .before .before .before .before .before .before .before .before .load .result) _ _ (c .before .before .before .before .before .before .before .before .before .before .before .before .load .ensures) (c .before .before .before .before .before .before .before .before .enum-told .given .1) (c .before .before .before .before .before .before .before .if1 .left) _ (c .before .before .found .ensures)
+returns-3 c =
+    let args = c .before .before .before .before .before .before .before .before .before .before .before .before .before
+    .before .before .before .before .before .before .args in
+    let load-call = c .before .before .before .before .before .before .before .before .before .before .before .before
+    .load in
+    let enum-told-call = c .before .before .before .before .before .before .before .before .enum-told in
+    let if1 = c .before .before .before .before .before .before .before .if1 in
+    safe-found (args .text .now) (args .keep .now) _ _ (load-call .result) _ _ (load-call .ensures)
+    (enum-told-call .given .1) (if1 .left) _ (c .before .before .found .ensures)
 
 pub safe-states-spec : {M : Type 1} → statement M
 safe-states-spec =

@@ -16,12 +16,14 @@ get-requires c κs = c .before .before .pre (c .if1 .left)
 returns-2 : tie.Need-returns-2
 returns-2 c =
     let args = c .before .before .before .before .args in
-    sym (kept-in (bit-at (args .keep .now)) (args .t) (c .before .before .if1 .left) (sym (c .before .get .ensures) ∙ c .if2 .taken))
+    sym (kept-in (bit-at (args .keep .now)) (args .t) (c .before .before .if1 .left)
+    (sym (c .before .get .ensures) ∙ c .if2 .taken))
 
 returns-3 : tie.Need-returns-3
 returns-3 c =
     let args = c .before .before .before .before .args in
-    sym (kept-out (bit-at (args .keep .now)) (args .t) (c .before .before .if1 .left) (sym (c .before .get .ensures) ∙ c .if2 .left))
+    sym (kept-out (bit-at (args .keep .now)) (args .t) (c .before .before .if1 .left)
+    (sym (c .before .get .ensures) ∙ c .if2 .left))
 
 pub kept-spec : {M : Type 1} → statement M
 kept-spec = tie.close (tie.spec returns get-requires returns-2 returns-3)

@@ -29,25 +29,36 @@ loop-holds : tie.Need-loop-holds Inv-loop μ-loop
 loop-holds c = (omega arith, (refl, sym (written-none _ _)))
 
 mul-kept : tie.Need-mul-kept Inv-loop μ-loop
-mul-kept c = omega (arith, c .before .before .before .before .pre .0 .room, c .before .before .before .before .good)
+mul-kept c =
+    let good = c .before .before .before .before .good in
+    let pre = c .before .before .before .before .pre in
+    omega (arith, pre .0 .room, good)
 
 slice-read-kept : tie.Need-slice-read-kept Inv-loop μ-loop
-slice-read-kept c = omega (arith, c .before .before .before .before .before .pre .0 .room, c .before .before .loop .inv .1 .0)
+slice-read-kept c =
+    let pre = c .before .before .before .before .before .pre in
+    omega (arith, pre .0 .room, c .before .before .loop .inv .1 .0)
 
 kept-requires : tie.Need-kept-requires Inv-loop μ-loop
 kept-requires c κs =
-    let loop = c .before .before .loop in
     let args = c .before .before .before .before .before .args in
     let pre = c .before .before .before .before .before .pre in
+    let loop = c .before .before .loop in
     λ e.
-    let same : getD (loop .moves) (loop .i) 0 ≡ getD (args .moves .now) (loop .i) 0 = ap (λ (y : List ℕ). getD y (loop .i) 0) (loop .inv .1 .1) ∙ written-past (λ (j : ℕ). kept-of (bit-at (args .keep .now)) (getD (args .moves .now) j 0)) (loop .i) (args .moves .now) (loop .i) (omega arith) in
+    let same : getD (loop .moves) (loop .i) 0 ≡ getD (args .moves .now) (loop .i) 0 =
+    ap (λ (y : List ℕ). getD y (loop .i) 0) (loop .inv .1 .1)
+    ∙ written-past (λ (j : ℕ). kept-of (bit-at (args .keep .now)) (getD (args .moves .now) j 0)) (loop .i)
+    (args .moves .now) (loop .i) (omega arith) in
     omega (arith, pre .1, entry-in (pre .0) (loop .i) (c .before .loop-test .taken) (λ f. e (same ∙ f)))
 
 mul-moves : tie.Need-mul-moves Inv-loop μ-loop
 mul-moves c = omega (arith, c .before .before .before .before .before .before .pre .0 .room)
 
 slice-write-moves : tie.Need-slice-write-moves Inv-loop μ-loop
-slice-write-moves c = omega (arith, c .before .before .before .before .before .before .pre .0 .room, c .before .before .before .loop .inv .1 .0)
+slice-write-moves c =
+    let pre = c .before .before .before .before .before .before .pre in
+    let loop = c .before .before .before .loop in
+    omega (arith, pre .0 .room, loop .inv .1 .0)
 
 add-i : tie.Need-add-i Inv-loop μ-loop
 add-i c = search needs
@@ -57,14 +68,19 @@ loop-less c = search needs
 
 loop-again : tie.Need-loop-again Inv-loop μ-loop
 loop-again c =
-    let loop = c .before .before .before .loop in
     let args = c .before .before .before .before .before .before .args in
-    let same : getD (loop .moves) (loop .i) 0 ≡ getD (args .moves .now) (loop .i) 0 = ap (λ (y : List ℕ). getD y (loop .i) 0) (loop .inv .1 .1) ∙ written-past (λ (j : ℕ). kept-of (bit-at (args .keep .now)) (getD (args .moves .now) j 0)) (loop .i) (args .moves .now) (loop .i) (omega arith) in (
+    let pre = c .before .before .before .before .before .before .pre in
+    let loop = c .before .before .before .loop in
+    let same : getD (loop .moves) (loop .i) 0 ≡ getD (args .moves .now) (loop .i) 0 =
+    ap (λ (y : List ℕ). getD y (loop .i) 0) (loop .inv .1 .1)
+    ∙ written-past (λ (j : ℕ). kept-of (bit-at (args .keep .now)) (getD (args .moves .now) j 0)) (loop .i)
+    (args .moves .now) (loop .i) (omega arith) in (
       omega arith,
       (
         simp length-set (omega arith),
         ap (λ (y : List ℕ). set y (loop .i) (c .kept .result)) (loop .inv .1 .1)
-            ∙ written-more (λ (j : ℕ). kept-of (bit-at (args .keep .now)) (getD (args .moves .now) j 0)) (loop .i) (args .moves .now) (c .kept .result) (omega (arith, c .before .before .before .before .before .before .pre .0 .room))
+            ∙ written-more (λ (j : ℕ). kept-of (bit-at (args .keep .now)) (getD (args .moves .now) j 0)) (loop .i)
+            (args .moves .now) (c .kept .result) (omega (arith, pre .0 .room))
             (c .kept .ensures ∙ ap (kept-of (bit-at (args .keep .now))) same),
       ),
     )
@@ -74,10 +90,11 @@ same-length c = c .before .loop .inv .1 .0
 
 returns : tie.Need-returns Inv-loop μ-loop
 returns c =
-    let loop = c .before .loop in
     let args = c .before .before .before .before .args in
+    let pre = c .before .before .before .before .pre in
+    let loop = c .before .loop in
     let e : loop .i ≡ args .n * args .steps = omega arith in
-    rw (loop .inv .1 .1, e) (pruned-is (c .before .before .before .before .pre .0) (args .keep .now))
+    rw (loop .inv .1 .1, e) (pruned-is (pre .0) (args .keep .now))
 
 pub prune-spec : {M : Type 1} → statement M
 prune-spec =

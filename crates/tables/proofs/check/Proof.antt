@@ -52,18 +52,22 @@ slice-aggregate-checked-4 c = search needs
 
 checked-requires : tie.Need-checked-requires
 checked-requires c κs =
-    let args = c .before .before .before .before .before .before .before .before .before .before .before .before .before .before .before .before .before .before .before .before .before .before .before .before .args in
-    let loaded = c .before .before .before .before .before .before .before .before .before .before .before .load-two in (
+    let args = c .before .before .before .before .before .before .before .before .before .before .before .before
+    .before .before .before .before .before .before .before .before .before .before .before .before .args in
+    let loaded = c .before .before .before .before .before .before .before .before .before .before .before
+    .load-two in
+    let enum-told-call = c .before .before .before .before .before .enum-told in (
       ready-two (args .left .now) (args .right .now) _ _ _ _ (loaded .result) (loaded .ensures)
-          (c .before .before .before .before .before .enum-told .given .1) (search needs),
+          (enum-told-call .given .1) (search needs),
       loaded-two (args .left .now)
           (args .right .now) _ _ _ _ (loaded .result) (loaded .ensures)
-          (c .before .before .before .before .before .enum-told .given .1) .right-bits,
+          (enum-told-call .given .1) .right-bits,
     )
 
 returns : tie.Need-returns
 returns c =
-    let args = c .before .before .before .before .before .before .before .before .before .before .before .before .before .before .before .before .before .before .before .before .args in
+    let args = c .before .before .before .before .before .before .before .before .before .before .before .before
+    .before .before .before .before .before .before .before .before .args in
     let loaded = c .before .before .before .before .before .before .before .load-two in
     check-refused (args .left .now) (args .right .now) _ _ _ _ (loaded .result) (loaded .ensures) (args .keep .now)
     (args .table .now) _ (c .before .answer .given .1)
@@ -73,10 +77,15 @@ same-length c = search needs
 
 returns-2 : tie.Need-returns-2
 returns-2 c =
-    let args = c .before .before .before .before .before .before .before .before .before .before .before .before .before .before .before .before .before .before .before .before .before .before .before .before .before .before .before .before .args in
-    let loaded = c .before .before .before .before .before .before .before .before .before .before .before .before .before .before .before .load-two in
+    let args = c .before .before .before .before .before .before .before .before .before .before .before .before
+    .before .before .before .before .before .before .before .before .before .before .before .before .before .before
+    .before .before .args in
+    let loaded = c .before .before .before .before .before .before .before .before .before .before .before
+    .before .before .before .before .load-two in
+    let enum-told-call = c .before .before .before .before .before .before .before .before .before .enum-told in
+    let checked-call = c .before .before .before .checked in
     check-done (args .left .now) (args .right .now) _ _ _ _ (loaded .result) (loaded .ensures) (args .keep .now)
-    (args .table .now) (c .before .before .before .before .before .before .before .before .before .enum-told .given .1) _ (c .before .before .before .checked .ensures)
+    (args .table .now) (enum-told-call .given .1) _ (checked-call .ensures)
 
 pub check-spec : {M : Type 1} → statement M
 check-spec =

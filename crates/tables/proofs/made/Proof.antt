@@ -1,6 +1,6 @@
 -- `tables::made` meets its contract, by the callees' contracts and the laws of its paths.
 use native.Mathlib.Omega.{arith}
-use Rattle.tables.specs.Paths.{widest-keep-short, widest-table-short, widest-not-safe, widest-made, widest-refused}
+use Rattle.tables.specs.Paths.{widest-keep-short, widest-table-short, widest-not-safe, widest-made}
 use borrow.Author.Needs.{needs}
 use Rattle.tables.proofs.made.Statement.{statement}
 use Rattle.tables.proofs.made.Tie as tie
@@ -28,8 +28,8 @@ returns-2 c =
     let args = c .before .before .before .before .before .before .before .before .before .before .args in
     let sized = c .before .before .table-length in
     widest-table-short (args .t) (args .lm .now) (args .rm .now) (args .lh .now) (args .rh .now) (args .keep .now)
-    (args .table .now) (c .before .before .before .if1 .left) (sized .result) (sized .ensures) _
-    (c .widest-refused2 .ensures) (c .before .if2 .taken)
+    (args .table .now) (c .before .before .before .if1 .left) (sized .result) (sized .ensures) _ (c .widest-refused2
+    .ensures) (c .before .if2 .taken)
 
 prepare-requires : tie.Need-prepare-requires
 prepare-requires c κs = search needs
@@ -45,23 +45,24 @@ same-length-2 c = search needs
 
 returns-3 : tie.Need-returns-3
 returns-3 c =
-    let args = c .before .before .before .before .before .before .before .before .before .before .before .before .before .before .before .before .before .before .args in
+    let args = c .before .before .before .before .before .before .before .before .before .before .before .before
+    .before .before .before .before .before .before .args in
+    let if1 = c .before .before .before .before .before .before .before .before .before .before .before .if1 in
     let sized = c .before .before .before .before .before .before .before .before .before .before .table-length in
+    let if2 = c .before .before .before .before .before .before .before .before .before .if2 in
     let prepared = c .before .before .before .before .before .before .prepare in
     widest-not-safe (args .t) (args .lm .now) (args .rm .now) (args .lh .now) (args .rh .now) (args .keep .now)
-    (args .table .now) (c .before .before .before .before .before .before .before .before .before .before .before .if1 .left) (sized .result) (sized .ensures) (c .before .before .before .before .before .before .before .before .before .if2 .left)
+    (args .table .now) (if1 .left) (sized .result) (sized .ensures) (if2 .left)
     _ _ (prepared .result) (prepared .ensures) _ (c .widest-refused3 .ensures) (c .before .if3 .taken)
-
-no-states-requires : tie.Need-no-states-requires
-no-states-requires c κs = search needs
-
-slice-aggregate-make-widest : tie.Need-slice-aggregate-make-widest
-slice-aggregate-make-widest c = search needs
 
 make-widest-requires : tie.Need-make-widest-requires
 make-widest-requires c κs =
-    let pre = c .before .before .before .before .before .before .before .before .before .before .before .before .before .before .before .before .before .before .before .before .before .before .pre in
-    let prepared = c .before .before .before .before .before .before .before .before .before .before .prepare in (
+    let pre = c .before .before .before .before .before .before .before .before .before .before .before .before .before
+    .before .before .before .before .before .before .before .pre in
+    let sized = c .before .before .before .before .before .before .before .before .before .before .before .before
+    .table-length in
+    let if2 = c .before .before .before .before .before .before .before .before .before .before .before .if2 in
+    let prepared = c .before .before .before .before .before .before .before .before .prepare in (
       record {
         left = prepared .ensures .bounded;
         right = pre .0 .right;
@@ -70,7 +71,7 @@ make-widest-requires c κs =
         safe-room = search needs;
         true-bits = pre .1;
       },
-      (omega (arith, c .before .before .before .before .before .before .before .before .before .before .before .before .before .before .table-length .ensures, c .before .before .before .before .before .before .before .before .before .before .before .before .before .if2 .left), omega (arith, c .before .before .before .before .no-states .ensures, pre .0 .right .few)),
+      omega (arith, sized .ensures, if2 .left),
     )
 
 same-length-3 : tie.Need-same-length-3
@@ -84,13 +85,21 @@ same-length-5 c = search needs
 
 returns-4 : tie.Need-returns-4
 returns-4 c =
-    let args = c .before .before .before .before .before .before .before .before .before .before .before .before .before .before .before .before .before .before .before .before .before .before .before .before .before .before .args in
-    let sized = c .before .before .before .before .before .before .before .before .before .before .before .before .before .before .before .before .before .before .table-length in
-    let prepared = c .before .before .before .before .before .before .before .before .before .before .before .before .before .before .prepare in
-    let widest = c .before .before .before .make-widest in
+    let args = c .before .before .before .before .before .before .before .before .before .before .before .before
+    .before .before .before .before .before .before .before .before .before .before .before .args in
+    let if1 = c .before .before .before .before .before .before .before .before .before .before .before .before .before
+    .before .before .before .if1 in
+    let sized = c .before .before .before .before .before .before .before .before .before .before .before .before
+    .before .before .before .table-length in
+    let if2 = c .before .before .before .before .before .before .before .before .before .before .before .before .before
+    .before .if2 in
+    let prepared = c .before .before .before .before .before .before .before .before .before .before .before .prepare in
+    let if3 = c .before .before .before .before .before .before .if3 in
+    let widest = c .before .before .make-widest in
     widest-made (args .t) (args .lm .now) (args .rm .now) (args .lh .now) (args .rh .now) (args .keep .now)
-    (args .table .now) (c .before .before .before .before .before .before .before .before .before .before .before .before .before .before .before .before .before .before .before .if1 .left) (sized .result) (sized .ensures) (c .before .before .before .before .before .before .before .before .before .before .before .before .before .before .before .before .before .if2 .left)
-    _ _ (prepared .result) (prepared .ensures) _ (widest .result .count) (widest .result .start) (c .before .before .before .before .before .before .before .before .before .if3 .left) (widest .ensures)
+    (args .table .now) (if1 .left) (sized .result) (sized .ensures) (if2 .left)
+    _ _ (prepared .result) (prepared .ensures) _ (widest .result .count) (widest .result .start) (if3 .left)
+    (widest .ensures)
 
 pub made-spec : {M : Type 1} → statement M
 made-spec =
@@ -107,8 +116,6 @@ made-spec =
     same-length
     same-length-2
     returns-3
-    no-states-requires
-    slice-aggregate-make-widest
     make-widest-requires
     same-length-3
     same-length-4

@@ -52,18 +52,22 @@ slice-aggregate-made-4 c = search needs
 
 made-requires : tie.Need-made-requires
 made-requires c κs =
-    let args = c .before .before .before .before .before .before .before .before .before .before .before .before .before .before .before .before .before .before .before .before .before .before .before .before .before .args in
-    let loaded = c .before .before .before .before .before .before .before .before .before .before .before .before .load-two in (
+    let args = c .before .before .before .before .before .before .before .before .before .before .before .before
+    .before .before .before .before .before .before .before .before .before .before .before .before .before .args in
+    let loaded = c .before .before .before .before .before .before .before .before .before .before .before
+    .before .load-two in
+    let enum-told-call = c .before .before .before .before .before .before .enum-told in (
       ready-two (args .left .now) (args .right .now) _ _ _ _ (loaded .result) (loaded .ensures)
-          (c .before .before .before .before .before .before .enum-told .given .1) (search needs),
+          (enum-told-call .given .1) (search needs),
       loaded-two
           (args .left .now) (args .right .now) _ _ _ _ (loaded .result) (loaded .ensures)
-          (c .before .before .before .before .before .before .enum-told .given .1) .right-bits,
+          (enum-told-call .given .1) .right-bits,
     )
 
 returns : tie.Need-returns
 returns c =
-    let args = c .before .before .before .before .before .before .before .before .before .before .before .before .before .before .before .before .before .before .before .before .args in
+    let args = c .before .before .before .before .before .before .before .before .before .before .before .before
+    .before .before .before .before .before .before .before .before .args in
     let loaded = c .before .before .before .before .before .before .before .load-two in
     widest-refused (args .left .now) (args .right .now) _ _ _ _ (loaded .result) (loaded .ensures) (args .keep .now)
     (args .table .now) _ (c .before .answer .given .1)
@@ -76,10 +80,16 @@ same-length-2 c = search needs
 
 returns-2 : tie.Need-returns-2
 returns-2 c =
-    let args = c .before .before .before .before .before .before .before .before .before .before .before .before .before .before .before .before .before .before .before .before .before .before .before .before .before .before .before .before .before .before .before .args in
-    let loaded = c .before .before .before .before .before .before .before .before .before .before .before .before .before .before .before .before .before .before .load-two in
+    let args = c .before .before .before .before .before .before .before .before .before .before .before .before
+    .before .before .before .before .before .before .before .before .before .before .before .before .before .before
+    .before .before .before .before .before .args in
+    let loaded = c .before .before .before .before .before .before .before .before .before .before .before
+    .before .before .before .before .before .before .before .load-two in
+    let enum-told-call = c .before .before .before .before .before .before .before .before .before .before .before
+    .before .enum-told in
+    let made-call = c .before .before .before .before .before .made in
     widest-done (args .left .now) (args .right .now) _ _ _ _ (loaded .result) (loaded .ensures) (args .keep .now)
-    (args .table .now) (c .before .before .before .before .before .before .before .before .before .before .before .before .enum-told .given .1) _ (c .before .before .before .before .before .made .ensures)
+    (args .table .now) (enum-told-call .given .1) _ (made-call .ensures)
 
 pub widest-spec : {M : Type 1} → statement M
 widest-spec =

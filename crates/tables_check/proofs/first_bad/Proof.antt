@@ -95,8 +95,8 @@ cast-v c =
 
 step-ok-requires : tie.Need-step-ok-requires Inv-loop μ-loop
 step-ok-requires c κs =
-    let pre = c .before .before .before .before .before .before .before .pre in
     let args = c .before .before .before .before .before .before .before .args in
+    let pre = c .before .before .before .before .before .before .before .pre in
     let loop = c .before .before .before .loop in
     let loop-test = c .before .before .loop-test in (
       pre .0 .few,
@@ -112,11 +112,12 @@ step-ok-requires c κs =
 returns : tie.Need-returns Inv-loop μ-loop
 unfolding first-bad fails-at
 returns c =
-    let loop = c .before .before .before .before .before .loop in
     let args = c .before .before .before .before .before .before .before .before .before .args in
+    let loop = c .before .before .before .before .before .loop in
     let loop-test = c .before .before .before .before .loop-test in
     let step-ok-call = c .before .step-ok in
-    let fails = fails-at (args .lm .now) (args .rm .now) (args .w) (args .steps) (args .raster .now) (args .s) (args .t) in
+    let fails = fails-at (args .lm .now) (args .rm .now) (args .w) (args .steps) (args .raster .now) (args .s) (args .t)
+    in
     sym (sym (loop .inv .1) ∙ least-yes fails (loop .c) (args .steps) (loop-test .taken)
     (ap not (sym (step-ok-call .ensures)) ∙ c .if1 .taken))
 
@@ -129,11 +130,12 @@ loop-less c = search needs
 loop-again : tie.Need-loop-again Inv-loop μ-loop
 unfolding fails-at
 loop-again c =
-    let loop = c .before .before .before .before .before .loop in
     let args = c .before .before .before .before .before .before .before .before .before .args in
+    let loop = c .before .before .before .before .before .loop in
     let loop-test = c .before .before .before .before .loop-test in
     let step-ok-call = c .before .step-ok in
-    let fails = fails-at (args .lm .now) (args .rm .now) (args .w) (args .steps) (args .raster .now) (args .s) (args .t) in (
+    let fails = fails-at (args .lm .now) (args .rm .now) (args .w) (args .steps) (args .raster .now) (args .s) (args .t)
+    in (
       omega arith,
       sym (least-no fails (loop .c) (args .steps) (loop-test .taken)
           (ap not (sym (step-ok-call .ensures)) ∙ c .if1 .left)) ∙ loop .inv .1,
@@ -142,9 +144,10 @@ loop-again c =
 returns-2 : tie.Need-returns-2 Inv-loop μ-loop
 unfolding first-bad
 returns-2 c =
-    let loop = c .before .loop in
     let args = c .before .before .before .before .before .args in
-    let fails = fails-at (args .lm .now) (args .rm .now) (args .w) (args .steps) (args .raster .now) (args .s) (args .t) in
+    let loop = c .before .loop in
+    let fails = fails-at (args .lm .now) (args .rm .now) (args .w) (args .steps) (args .raster .now) (args .s) (args .t)
+    in
     sym (sym (loop .inv .1) ∙ least-end fails (loop .c) (args .steps) (c .loop-test .left))
 
 pub first-bad-spec : {M : Type 1} → statement M

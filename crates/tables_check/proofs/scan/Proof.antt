@@ -7,7 +7,7 @@ use Prim.Native.Nat.{ℕ, _+_, _-_, _*_, _<_}
 use lib.ListN.{length, take, drop}
 use Rattle.clocks_bits.specs.Packed.{bytes}
 use Rattle.tables_rows.specs.RasterLaws.{part-length}
-use Rattle.tables_rows.specs.NarrowLaws.{row-few, row-end}
+use Rattle.tables_rows.specs.RasterLaws.{row-few, row-end}
 use Rattle.tables_check.specs.Fault.{fault-at, row-from, table-from}
 use Rattle.tables_check.specs.Loops.{row-step, row-done, table-step, table-end, picked-fine, picked-not-allowed, picked-broken}
 use Rattle.tables_check.proofs.scan.Statement.{statement}
@@ -74,9 +74,9 @@ columns-holds c =
 
 fault-at-requires : tie.Need-fault-at-requires Inv-columns μ-columns Inv-rows μ-rows
 fault-at-requires c κs =
-    let rows = c .before .before .before .before .rows in
     let args = c .before .before .before .before .before .before .before .before .before .before .args in
     let pre = c .before .before .before .before .before .before .before .before .before .before .pre in
+    let rows = c .before .before .before .before .rows in
     let below : rows .s < args .n = omega arith in
     let e : rows .s * bytes (args .w) + bytes (args .w) - rows .s * bytes (args .w) ≡ bytes (args .w) = omega arith in
     let same = ap (λ (x : ℕ). take x (drop (rows .s * bytes (args .w)) (args .raster .now))) e in
@@ -120,11 +120,12 @@ columns-less c = search needs
 
 columns-again : tie.Need-columns-again Inv-columns μ-columns Inv-rows μ-rows
 columns-again c =
+    let args = c .before .before .before .before .before .before .before .before .before .before .before .before
+    .before .args in
     let rows = c .before .before .before .before .before .before .before .rows in
     let columns = c .before .before .before .before .columns in
-    let fault-at-call = c .before .before .fault-at in
-    let args = c .before .before .before .before .before .before .before .before .before .before .before .before .before .args in
     let columns-test = c .before .before .before .columns-test in
+    let fault-at-call = c .before .before .fault-at in
     let faults = fault-at (args .lm .now) (args .rm .now) (args .keep .now) (args .holds .now) (args .w)
     (args .steps) (args .raster .now) in
     let later = table-from faults (args .w) (args .n - (rows .s + 1)) (rows .s + 1) in
@@ -150,19 +151,20 @@ rows-again c =
 
 returns : tie.Need-returns Inv-columns μ-columns Inv-rows μ-rows
 returns c =
-    let rows = c .before .rows in
     let args = c .before .before .before .before .before .before .before .args in
+    let rows = c .before .rows in
     let faults = fault-at (args .lm .now) (args .rm .now) (args .keep .now) (args .holds .now) (args .w)
     (args .steps) (args .raster .now) in
     sym (sym (rows .inv) ∙ table-end faults (args .w) (args .n) (rows .s) (c .if1 .taken))
 
 returns-2 : tie.Need-returns-2 Inv-columns μ-columns Inv-rows μ-rows
 returns-2 c =
-    let columns = c .before .before .before .before .columns in
+    let args = c .before .before .before .before .before .before .before .before .before .before .before .before
+    .before .args in
     let rows = c .before .before .before .before .before .before .before .rows in
-    let fault-at-call = c .before .before .fault-at in
-    let args = c .before .before .before .before .before .before .before .before .before .before .before .before .before .args in
+    let columns = c .before .before .before .before .columns in
     let columns-test = c .before .before .before .columns-test in
+    let fault-at-call = c .before .before .fault-at in
     let faults = fault-at (args .lm .now) (args .rm .now) (args .keep .now) (args .holds .now) (args .w)
     (args .steps) (args .raster .now) in
     let later = table-from faults (args .w) (args .n - (rows .s + 1)) (rows .s + 1) in
@@ -172,12 +174,13 @@ returns-2 c =
 
 returns-3 : tie.Need-returns-3 Inv-columns μ-columns Inv-rows μ-rows
 returns-3 c =
-    let columns = c .before .before .before .before .before .columns in
+    let args = c .before .before .before .before .before .before .before .before .before .before .before .before
+    .before .before .args in
     let rows = c .before .before .before .before .before .before .before .before .rows in
-    let f = c .before .f in
-    let fault-at-call = c .before .before .before .fault-at in
-    let args = c .before .before .before .before .before .before .before .before .before .before .before .before .before .before .args in
+    let columns = c .before .before .before .before .before .columns in
     let columns-test = c .before .before .before .before .columns-test in
+    let fault-at-call = c .before .before .before .fault-at in
+    let f = c .before .f in
     let faults = fault-at (args .lm .now) (args .rm .now) (args .keep .now) (args .holds .now) (args .w)
     (args .steps) (args .raster .now) in
     let later = table-from faults (args .w) (args .n - (rows .s + 1)) (rows .s + 1) in

@@ -8,7 +8,7 @@ use lib.ListN.{length, getD}
 use Rattle.clocks_bits.specs.Bits.{bit-at}
 use Rattle.clocks_bits.specs.Packed.{bytes}
 use Rattle.tables_rows.specs.Raster.{part}
-use Rattle.tables_rows.specs.NarrowLaws.{row-few, row-end}
+use Rattle.tables_rows.specs.RasterLaws.{row-few, row-end}
 use Rattle.tables_count.specs.Pairs.{passing, pairs-set}
 use Rattle.tables_count.specs.PairsLaws.{pairs-le, passing-le, pairs-more}
 use Rattle.tables_count.proofs.pairs.Statement.{statement}

@@ -16,8 +16,8 @@ use Rattle.tables_fill.proofs.fill.Tie as tie
 
 abbrev Inv-loop : tie.InvT-loop
 Inv-loop raster₀ keep holds n w b all s₀ raster s =
-    (s ≤ n) × ((length raster ≡ length raster₀) ×
-    ((d : List ℕ) → Filling n w keep holds 0 d raster₀ → Filling n w keep holds s d raster))
+    (s ≤ n) × ((length raster ≡ length raster₀)
+    × ((d : List ℕ) → Filling n w keep holds 0 d raster₀ → Filling n w keep holds s d raster))
 
 abbrev μ-loop : tie.MeasureT-loop
 μ-loop raster₀ keep holds n w b all s₀ raster s = n - s
@@ -31,8 +31,8 @@ mul-all c =
     let pre = c .before .before .before .pre in
     omega (arith, (mul-le-mul-right (bytes (args .w)) (pre .0)))
 
-zero-requires : tie.Need-zero-requires Inv-loop μ-loop
-zero-requires c κs = search needs
+fill-requires : tie.Need-fill-requires Inv-loop μ-loop
+fill-requires c κs = search needs
 
 loop-holds : tie.Need-loop-holds Inv-loop μ-loop
 loop-holds c = (omega arith, (refl, λ d F. F))
@@ -40,7 +40,7 @@ loop-holds c = (omega arith, (refl, λ d F. F))
 fill-row-requires : tie.Need-fill-row-requires Inv-loop μ-loop
 fill-row-requires c κs =
     let pre = c .before .before .before .before .before .before .before .before .before .before .pre in
-    let zero-call = c .before .before .before .before .before .zero in
+    let filled = c .before .before .before .before .before .fill in
     let loop = c .before .before .loop in
     let loop-test = c .before .loop-test in (
       pre .0,
@@ -48,7 +48,7 @@ fill-row-requires c κs =
         pre .1 .0,
         (
           loop-test .taken,
-          (pre .1 .1 .0, (pre .1 .1 .1 .0, omega (arith, loop .inv .1 .0, zero-call .kept .0))),
+          (pre .1 .1 .0, (pre .1 .1 .1 .0, omega (arith, loop .inv .1 .0, filled .kept .0))),
         ),
       ),
     )
@@ -67,19 +67,19 @@ loop-again c =
 
 same-length : tie.Need-same-length Inv-loop μ-loop
 same-length c =
-    let zero-call = c .before .before .before .before .zero in
+    let filled = c .before .before .before .before .fill in
     let loop = c .before .loop in
-    loop .inv .1 .0 ∙ zero-call .kept .0
+    loop .inv .1 .0 ∙ filled .kept .0
 
 returns : tie.Need-returns Inv-loop μ-loop
 returns c =
     let args = c .before .before .before .before .before .before .before .before .before .args in
     let pre = c .before .before .before .before .before .before .before .before .before .pre in
-    let zero-call = c .before .before .before .before .zero in
+    let filled = c .before .before .before .before .fill in
     let loop = c .before .loop in
     let e : loop .s ≡ args .n = omega arith in
     rw e at (loop .inv .1 .1 (args .raster .now)
-    (λ Y P. rw (zero-call .ensures)
+    (λ Y P. rw (filled .ensures)
     (fill-none (args .n) (args .w) (bit-at (args .keep .now)) (at Y) (args .raster .now) (pre .1 .1 .1 .1))))
 
 pub fill-spec : {M : Type 1} → statement M
@@ -90,7 +90,7 @@ fill-spec =
     μ-loop
     add-b
     mul-all
-    zero-requires
+    fill-requires
     loop-holds
     fill-row-requires
     add-s

@@ -7,7 +7,7 @@ use borrow.Author.Tests.{not-true, not-false}
 use Rattle.systems.specs.Tests.{at}
 use Rattle.clocks_bits.specs.Bits.{bit-at}
 use Rattle.clocks_bits.specs.Packed.{bytes}
-use Rattle.tables_rows.specs.NarrowLaws.{row-few, row-end}
+use Rattle.tables_rows.specs.RasterLaws.{row-few, row-end}
 use Rattle.tables_fill.specs.FillLaws.{fills-skip, fill-more}
 use borrow.Author.Needs.{needs}
 use Rattle.tables_fill.proofs.fill_row.Statement.{statement}

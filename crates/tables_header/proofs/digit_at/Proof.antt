@@ -10,8 +10,8 @@ use Rattle.tables_header.proofs.digit_at.Statement.{statement}
 use Rattle.tables_header.proofs.digit_at.Tie as tie
 
 abbrev Inv-loop : tie.InvT-loop
-Inv-loop n i rest₀ k₀ rest k = (k ≡ length (decimal rest)) ×
-    ((i < k) × ((k ≤ n + 1) × (getD (decimal rest) i 0 ≡ getD (decimal n) i 0)))
+Inv-loop n i rest₀ k₀ rest k = (k ≡ length (decimal rest))
+    × ((i < k) × ((k ≤ n + 1) × (getD (decimal rest) i 0 ≡ getD (decimal n) i 0)))
 
 abbrev μ-loop : tie.MeasureT-loop
 μ-loop n i rest₀ k₀ rest k = k
@@ -22,8 +22,13 @@ digit-count-requires c κs = search needs
 loop-holds : tie.Need-loop-holds Inv-loop μ-loop
 loop-holds c =
     let pre = c .before .pre in
-    let args = c .before .args in
-    (c .digit-count .ensures, (omega (arith, pre .1, c .digit-count .ensures), (omega (arith, decimal-few (args .n)), refl)))
+    let args = c .before .args in (
+      c .digit-count .ensures,
+      (
+        omega (arith, pre .1, c .digit-count .ensures),
+        (omega (arith, decimal-few (args .n)), refl),
+      ),
+    )
 
 add-loop : tie.Need-add-loop Inv-loop μ-loop
 add-loop c = search needs

@@ -36,8 +36,8 @@ header-byte-requires c κs = search needs
 returns-2 : tie.Need-returns-2 Inv-loop μ-loop
 unfolding header-bytes
 returns-2 c =
-    let loop = c .before .before .before .before .loop in
     let args = c .before .before .before .before .before .before .before .before .args in
+    let loop = c .before .before .before .before .loop in
     let header-byte-call = c .before .header-byte in
     sym (loop .inv .1 ∙ begins-not (header (args .w) (args .h)) (args .table .now) (loop .i) (omega arith)
     (omega arith) (λ e. c .if2 .taken (e ∙ sym (header-byte-call .ensures))))
@@ -51,8 +51,8 @@ loop-less c = search needs
 loop-again : tie.Need-loop-again Inv-loop μ-loop
 unfolding header-bytes
 loop-again c =
-    let loop = c .before .before .before .before .loop in
     let args = c .before .before .before .before .before .before .before .before .args in
+    let loop = c .before .before .before .before .loop in
     let header-byte-call = c .before .header-byte in (
       omega arith,
       loop .inv .1 ∙ begins-here (header (args .w) (args .h)) (args .table .now) (loop .i) (omega arith)
@@ -62,8 +62,8 @@ loop-again c =
 returns-3 : tie.Need-returns-3 Inv-loop μ-loop
 unfolding header-bytes
 returns-3 c =
-    let loop = c .before .loop in
     let args = c .before .before .before .before .before .args in
+    let loop = c .before .loop in
     sym (loop .inv .1 ∙ begins-all (header (args .w) (args .h)) (args .table .now) (loop .i) (omega arith))
 
 pub has-header-spec : {M : Type 1} → statement M

@@ -37,8 +37,9 @@ loop-less c = search needs
 
 loop-again : tie.Need-loop-again Inv-loop μ-loop
 loop-again c =
+    let args′ = c .before .before .before .before .before .args in
     let loop = c .before .before .loop in
-    let args = c .before .before .before .before .before .args in (
+    let args = args′ in (
       omega arith,
       (
         simp length-set (omega arith),
@@ -54,8 +55,8 @@ same-length c = search needs
 returns : tie.Need-returns Inv-loop μ-loop
 unfolding header-bytes
 returns c =
-    let loop = c .before .loop in
     let args = c .before .before .before .before .args in
+    let loop = c .before .loop in
     let e : loop .i ≡ length (header (args .w) (args .h)) = omega arith in
     (rw e at (loop .inv .1 .1)) ∙ written-list (header (args .w) (args .h)) (args .table .now) (omega arith)
 

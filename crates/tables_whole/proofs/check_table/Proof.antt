@@ -65,9 +65,9 @@ returns-2 : tie.Need-returns-2
 unfolding table-answer
 returns-2 c =
     let args = c .before .before .before .before .before .before .before .before .before .before .args in
-    let header-length-call = c .before .before .header-length in
     let is-table-call = c .before .before .before .before .is-table in
     let if1 = c .before .before .before .if1 in
+    let header-length-call = c .before .before .header-length in
     let fit = sym (is-table-call .ensures) ∙ not-false (is-table-call .result) (if1 .left) in
     let part : take (length (args .table .now) - header-length-call .result)
     (drop (header-length-call .result) (args .table .now)) ≡ drop (header-bytes (args .w) (args .n))

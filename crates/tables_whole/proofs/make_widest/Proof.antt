@@ -1,7 +1,6 @@
 -- make_widest writes the header, then the raster into the part behind it.
 use borrow.Author.Needs.{needs}
 use native.Mathlib.Omega.{arith}
-use Prim.Native.Nat.{_-_}
 use Rattle.tables_header.specs.Header.{table-bytes}
 use Rattle.tables_whole.specs.Parts.{raster-room, made-done}
 use Rattle.tables_whole.proofs.make_widest.Statement.{statement}
@@ -10,8 +9,8 @@ use Rattle.tables_whole.proofs.make_widest.Tie as tie
 write-header-requires : tie.Need-write-header-requires
 unfolding table-bytes
 write-header-requires c κs =
-    let pre = c .before .before .before .before .before .before .before .pre in
-    (pre .0 .right .few, (pre .0 .left .few, omega (arith, pre .1 .0)))
+    let pre = c .before .before .before .before .before .before .pre in
+    (pre .0 .right .few, (pre .0 .left .few, omega (arith, pre .1)))
 
 header-length-requires : tie.Need-header-length-requires
 header-length-requires c κs = search needs
@@ -19,51 +18,44 @@ header-length-requires c κs = search needs
 sub-widest : tie.Need-sub-widest
 unfolding table-bytes
 sub-widest c =
-    let pre = c .before .before .before .before .before .before .before .before .before .before .before .pre in
-    let write-header-call = c .before .before .before .write-header in
-    omega (arith, c .header-length .ensures, pre .1 .0, write-header-call .kept .0)
+    let pre = c .before .before .before .before .before .before .before .before .before .before .pre in
+    omega (arith, c .header-length .ensures, pre .1, c .before .before .before .write-header .kept .0)
 
 part-widest-start : tie.Need-part-widest-start
 unfolding table-bytes
 part-widest-start c =
-    let pre = c .before .before .before .before .before .before .before .before .before .before .before .pre in
-    let write-header-call = c .before .before .before .write-header in
-    omega (arith, c .header-length .ensures, pre .1 .0, write-header-call .kept .0)
+    let pre = c .before .before .before .before .before .before .before .before .before .before .pre in
+    omega (arith, c .header-length .ensures, pre .1, c .before .before .before .write-header .kept .0)
 
 part-widest-end : tie.Need-part-widest-end
 part-widest-end c = search needs
 
 widest-requires : tie.Need-widest-requires
 widest-requires c κs =
-    let pre = c .before .before .before .before .before .before .before .before .before .before .before .before .before .pre in
-    let args = c .before .before .before .before .before .before .before .before .before .before .before .before .before .args in
-    let header-length-call = c .before .before .header-length in
-    let write-header-call = c .before .before .before .before .before .write-header in (
+    let args = c .before .before .before .before .before .before .before .before .before .before .before .args in
+    let pre = c .before .before .before .before .before .before .before .before .before .before .before .pre in
+    let written = c .before .before .before .before .write-header in
+    let start = c .before .header-length in (
       pre .0,
-      (
-        raster-room (args .w) (args .n) (header-length-call .result) (write-header-call .last .0)
-            (header-length-call .ensures) (omega (arith, pre .1 .0, write-header-call .kept .0)),
-        pre .1 .1,
-      ),
+      raster-room (args .w) (args .n) (start .result) (written .last .0) (start .ensures)
+          (omega (arith, pre .1, written .kept .0)),
     )
 
 same-length : tie.Need-same-length
 same-length c = search needs
 
-same-length-2 : tie.Need-same-length-2
-same-length-2 c = search needs
-
 returns : tie.Need-returns
 returns c =
-    let args = c .before .before .before .before .before .before .before .before .before .before .before .before .before .before .before .before .before .before .args in
-    let pre = c .before .before .before .before .before .before .before .before .before .before .before .before .before .before .before .before .before .before .pre in
-    let header-length-call = c .before .before .before .before .before .before .before .header-length in
-    let write-header-call = c .before .before .before .before .before .before .before .before .before .before .write-header in
-    let widest-call = c .before .before .before .before .widest in
-    made-done (args .w) (args .n) (args .table .now) (pre .1 .0) (args .keep .now) (args .holds .now) (args .lm .now)
-    (args .rm .now) (args .steps) (args .ls) (args .rs)
-    (header-length-call .result) (write-header-call .last .0) (widest-call .last .0) (widest-call .result .count)
-    (widest-call .result .start) (header-length-call .ensures) (write-header-call .ensures) (widest-call .ensures)
+    let args = c .before .before .before .before .before .before .before .before .before .before .before .before
+    .before .before .args in
+    let pre = c .before .before .before .before .before .before .before .before .before .before .before .before .before
+    .before .pre in
+    let written = c .before .before .before .before .before .before .before .write-header in
+    let start = c .before .before .before .before .header-length in
+    let widest = c .before .before .widest in
+    made-done (args .w) (args .n) (args .table .now) (pre .1) (args .keep .now) (args .holds .now) (args .lm .now)
+    (args .rm .now) (args .steps) (args .ls) (args .rs) (start .result) (written .last .0) (widest .last .0)
+    (widest .result .count) (widest .result .start) (start .ensures) (written .ensures) (widest .ensures)
 
 pub make-widest-spec : {M : Type 1} → statement M
 make-widest-spec =
@@ -76,5 +68,4 @@ make-widest-spec =
     part-widest-end
     widest-requires
     same-length
-    same-length-2
     returns)

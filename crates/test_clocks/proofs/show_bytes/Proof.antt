@@ -24,7 +24,9 @@ shared-slice-read-put : tie.Need-shared-slice-read-put Inv-loop μ-loop
 shared-slice-read-put c = omega arith
 
 cast-put : tie.Need-cast-put Inv-loop μ-loop
-cast-put c = omega (arith, c .before .before .before .before .before .shared-slice-known .given (c .before .before .loop .i))
+cast-put c =
+    let shared-slice-known = c .before .before .before .before .before .shared-slice-known in
+    omega (arith, shared-slice-known .given (c .before .before .loop .i))
 
 put-requires : tie.Need-put-requires Inv-loop μ-loop
 put-requires c κs = search needs

@@ -24,13 +24,16 @@ same-length-2 c = search needs
 
 returns : tie.Need-returns
 returns c =
-    let first = c .before .before .before .before .before .before .before .before .before .before .before .before .before .before .before .before .before in
+    let first = c .before .before .before .before .before .before .before .before .before .before .before .before
+    .before .before .before .before .before in
+    let safe-call = c .before .before .before .before .before .before .before .before .before .safe in
+    let prune-call = c .before .before .before .before .prune in
     let args = first .args in
     prepared (args .t) (args .lh .now) (args .lm .now) _ (args .keep .now) _
-    (c .before .before .before .before .before .before .before .before .before .safe .result) _ (first .pre .0)
+    (safe-call .result) _ (first .pre .0)
     (first .pre .1)
-    (c .before .before .before .before .before .before .before .before .before .safe .ensures)
-    (c .before .before .before .before .prune .ensures) (c .get .ensures)
+    (safe-call .ensures)
+    (prune-call .ensures) (c .get .ensures)
 
 pub prepare-spec : {M : Type 1} → statement M
 prepare-spec =

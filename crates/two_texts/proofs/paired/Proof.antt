@@ -28,7 +28,8 @@ add-right-width c =
 
 add-left-width : tie.Need-add-left-width
 add-left-width c =
-    let start = c .before .before .before .before .before .before .before .before .before .before .before .before in
+    let start = c .before .before .before .before .before .before .before .before .before .before .before .before
+    in
     omega (arith, reading-formed (start .args .left .now) (start .args .l) (start .pre .0) .channels)
 
 renumber-requires : tie.Need-renumber-requires

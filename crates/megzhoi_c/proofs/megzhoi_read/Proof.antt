@@ -1,0 +1,45 @@
+-- `megzhoi_c::megzhoi_read` meets its contract, by the callees' contracts and the definitions of `Returned`.
+use mathlib.Core.Path.{ap, _∙_}
+use Rattle.clocks_read.specs.declared.Reading.{Reading}
+use Rattle.megzhoi_c.specs.Returned.{of-read, recorded}
+use Rattle.megzhoi_c.specs.Laws.{handed-out}
+use borrow.Author.Needs.{needs}
+use Rattle.megzhoi_c.proofs.megzhoi_read.Statement.{statement}
+use Rattle.megzhoi_c.proofs.megzhoi_read.Tie as tie
+
+read-requires : tie.Need-read-requires
+read-requires c κs = search needs
+
+write-record-requires : tie.Need-write-record-requires
+write-record-requires c κs = search needs
+
+read-returned-requires : tie.Need-read-returned-requires
+read-returned-requires c κs = search needs
+
+hand-out-requires : tie.Need-hand-out-requires
+hand-out-requires c κs = search needs
+
+same-length : tie.Need-same-length
+same-length c = search needs
+
+returns : tie.Need-returns
+returns c =
+    let done = c .before .before .before .before .before .before .before .before .before .before .read .ensures in
+    let written = c .before .before .before .before .before .before .before .write-record .ensures in
+    let before = c .before .before .before .before .before .before .before .before .before .before .before .before
+    .before .args .out .now in (
+      handed-out (λ (r : Reading). of-read (r .answer) (r .states)) (c .hand-out .ensures)
+          (c .before .before .before .before .read-returned .ensures) done,
+      written ∙ ap (λ (r : Reading). recorded (r .answer) (r .text) (r .states) before) done,
+    )
+
+pub megzhoi-read-spec : {M : Type 1} → statement M
+megzhoi-read-spec =
+    tie.close
+    (tie.spec
+    read-requires
+    write-record-requires
+    read-returned-requires
+    hand-out-requires
+    same-length
+    returns)

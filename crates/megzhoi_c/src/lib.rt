@@ -1,0 +1,226 @@
+// Document 01's five operations for callers in C and Rust. A slice is a pointer and a length in entries. The answer is
+// four numbers: the code, 0 for success, is returned, and the file mark, p and q are written.
+use clocks_read::ReadAnswer;
+use reader_record::Text;
+use refusals::Refusal;
+use safe_states::SafeAnswer;
+use search::SearchAnswer;
+use tables::CheckAnswer;
+use tables::WidestAnswer;
+ghost use mathlib.Core.Path.{_≡_};
+ghost use lib.ListN.{length};
+ghost use Rattle.clocks_read.specs.Reading.{read-outcome};
+ghost use Rattle.safe_states.specs.Outcome.{safe-outcome};
+ghost use Rattle.search.specs.Outcome.{search-outcome, Scratch};
+ghost use Rattle.tables.specs.Outcome.{check-outcome, widest-outcome};
+ghost use Rattle.megzhoi_c.specs.Returned.{four, success, as-number, recorded};
+ghost use Rattle.megzhoi_c.specs.Returned.{of-read, of-safe, of-search, of-check, of-widest};
+
+// 1 for true and 0 for false.
+fn number_of_bool(b: bool) -> usize
+    ensures { λ r. ⌜ r ≡ as-number b ⌝ }
+{
+    if b {
+        return 1;
+    }
+    0
+}
+
+// Success, with the two numbers that the call gives.
+fn succeeded(p: usize, q: usize) -> Refusal
+    ensures { λ r. ⌜ r ≡ success p q ⌝ }
+{
+    Refusal {
+        code: 0,
+        file: 0,
+        p,
+        q,
+    }
+}
+
+fn read_returned(a: ReadAnswer, states: usize) -> Refusal
+    ensures { λ r. ⌜ r ≡ of-read a states ⌝ }
+{
+    match a {
+        ReadAnswer::Accepted => succeeded(states, 0),
+        ReadAnswer::Refused(f) => f,
+    }
+}
+
+fn safe_returned(a: SafeAnswer) -> Refusal
+    ensures { λ r. ⌜ r ≡ of-safe a ⌝ }
+{
+    match a {
+        SafeAnswer::Found(count, start) => {
+            let q = number_of_bool(start);
+            succeeded(count, q)
+        }
+        SafeAnswer::Refused(f) => f,
+    }
+}
+
+fn search_returned(a: SearchAnswer) -> Refusal
+    ensures { λ r. ⌜ r ≡ of-search a ⌝ }
+{
+    match a {
+        SearchAnswer::Found(n) => succeeded(n, 0),
+        SearchAnswer::Refused(f) => f,
+    }
+}
+
+fn check_returned(a: CheckAnswer) -> Refusal
+    ensures { λ r. ⌜ r ≡ of-check a ⌝ }
+{
+    match a {
+        CheckAnswer::Accepted(count) => succeeded(count, 0),
+        CheckAnswer::Refused(f) => f,
+    }
+}
+
+fn widest_returned(a: WidestAnswer) -> Refusal
+    ensures { λ r. ⌜ r ≡ of-widest a ⌝ }
+{
+    match a {
+        WidestAnswer::Made(count, start) => {
+            let q = number_of_bool(start);
+            succeeded(count, q)
+        }
+        WidestAnswer::Refused(f) => f,
+    }
+}
+
+// Hands out the four numbers of an answer.
+fn hand_out(f: Refusal, file: &mut usize, p: &mut usize, q: &mut usize) -> usize
+    ensures { λ r. ⌜ four r (now (file .exit)) (now (p .exit)) (now (q .exit)) ≡ f ⌝ }
+{
+    *file = f.file;
+    *p = f.p;
+    *q = f.q;
+    f.code
+}
+
+// Writes the record of a text that was read.
+fn write_record(a: ReadAnswer, t: Text, states: usize, out: &mut [usize])
+    ensures { λ _. ⌜ now (out .exit) ≡ recorded a t states (now (out .entry)) ⌝ }
+{
+    match a {
+        ReadAnswer::Accepted => reader_numbers::write(out, t, states),
+        ReadAnswer::Refused(_) => (),
+    }
+}
+
+// Reads a text: p is the number of its states, and the record is written as far as `out` goes.
+#[no_mangle]
+pub extern "C" fn megzhoi_read(
+    text: &[u8],
+    out: &mut [usize],
+    file: &mut usize,
+    p: &mut usize,
+    q: &mut usize,
+) -> usize
+    ensures { λ r. ⌜ four r (now (file .exit)) (now (p .exit)) (now (q .exit)) ≡
+        of-read (read-outcome (now (text .entry)) .answer) (read-outcome (now (text .entry)) .states) ⌝ }
+    ensures { λ _. ⌜ now (out .exit) ≡ recorded (read-outcome (now (text .entry)) .answer)
+        (read-outcome (now (text .entry)) .text) (read-outcome (now (text .entry)) .states) (now (out .entry)) ⌝ }
+{
+    let reading = clocks_read::read(text);
+    let answer = reading.answer;
+    let t = reading.text;
+    write_record(answer, t, reading.states, out);
+    let f = read_returned(answer, reading.states);
+    hand_out(f, file, p, q)
+}
+
+// Writes the bits of the safe states into keep: p is their count, q is 1 where the start is safe.
+#[no_mangle]
+pub extern "C" fn megzhoi_safe_states(
+    text: &[u8],
+    keep: &mut [u8],
+    file: &mut usize,
+    p: &mut usize,
+    q: &mut usize,
+) -> usize
+    ensures { λ r. ⌜ four r (now (file .exit)) (now (p .exit)) (now (q .exit)) ≡
+        of-safe (safe-outcome (now (text .entry)) (now (keep .entry)) .answer) ⌝ }
+    ensures { λ _. ⌜ now (keep .exit) ≡ safe-outcome (now (text .entry)) (now (keep .entry)) .keep ⌝ }
+{
+    let answer = safe_states::safe_states(text, keep);
+    let f = safe_returned(answer);
+    hand_out(f, file, p, q)
+}
+
+// Searches for a shortest departure: p is n. The steps are in run; back and line are scratch.
+#[no_mangle]
+pub extern "C" fn megzhoi_search(
+    left: &[u8],
+    right: &[u8],
+    keep: &mut [u8],
+    back: &mut [u32],
+    line: &mut [u32],
+    run: &mut [u32],
+    file: &mut usize,
+    p: &mut usize,
+    q: &mut usize,
+) -> usize
+    ensures { λ r. ⌜ four r (now (file .exit)) (now (p .exit)) (now (q .exit)) ≡ of-search (
+        search-outcome (now (left .entry)) (now (right .entry)) (now (keep .entry)) (length (now (back .entry)))
+        (length (now (line .entry))) (now (run .entry)) .answer) ⌝ }
+    ensures { λ _. ⌜ now (keep .exit) ≡
+        search-outcome (now (left .entry)) (now (right .entry)) (now (keep .entry)) (length (now (back .entry)))
+        (length (now (line .entry))) (now (run .entry)) .keep ⌝ }
+    ensures { λ _. ⌜ now (run .exit) ≡
+        search-outcome (now (left .entry)) (now (right .entry)) (now (keep .entry)) (length (now (back .entry)))
+        (length (now (line .entry))) (now (run .entry)) .run ⌝ }
+    ensures { λ _. ⌜ Scratch (
+        search-outcome (now (left .entry)) (now (right .entry)) (now (keep .entry)) (length (now (back .entry)))
+        (length (now (line .entry))) (now (run .entry)) .answer)
+        (now (back .entry)) (now (back .exit)) (now (line .entry)) (now (line .exit)) ⌝ }
+{
+    let answer = search::search(left, right, keep, back, line, run);
+    let f = search_returned(answer);
+    hand_out(f, file, p, q)
+}
+
+// Checks a given table: p is the number of pairs set.
+#[no_mangle]
+pub extern "C" fn megzhoi_check(
+    left: &[u8],
+    right: &[u8],
+    keep: &mut [u8],
+    table: &[u8],
+    file: &mut usize,
+    p: &mut usize,
+    q: &mut usize,
+) -> usize
+    ensures { λ r. ⌜ four r (now (file .exit)) (now (p .exit)) (now (q .exit)) ≡ of-check (
+        check-outcome (now (left .entry)) (now (right .entry)) (now (keep .entry)) (now (table .entry)) .answer) ⌝ }
+    ensures { λ _. ⌜ now (keep .exit) ≡
+        check-outcome (now (left .entry)) (now (right .entry)) (now (keep .entry)) (now (table .entry)) .keep ⌝ }
+{
+    let answer = tables::check(left, right, keep, table);
+    let f = check_returned(answer);
+    hand_out(f, file, p, q)
+}
+
+// Makes the widest table: p is the number of its pairs, q is 1 where the start pair is one.
+#[no_mangle]
+pub extern "C" fn megzhoi_widest(
+    left: &[u8],
+    right: &[u8],
+    keep: &mut [u8],
+    table: &mut [u8],
+    file: &mut usize,
+    p: &mut usize,
+    q: &mut usize,
+) -> usize
+    ensures { λ r. ⌜ four r (now (file .exit)) (now (p .exit)) (now (q .exit)) ≡ of-widest (
+        widest-outcome (now (left .entry)) (now (right .entry)) (now (keep .entry)) (now (table .entry)) .answer) ⌝ }
+    ensures { λ _. ⌜ now (keep .exit) ≡
+        widest-outcome (now (left .entry)) (now (right .entry)) (now (keep .entry)) (now (table .entry)) .keep ⌝ }
+    ensures { λ _. ⌜ now (table .exit) ≡
+        widest-outcome (now (left .entry)) (now (right .entry)) (now (keep .entry)) (now (table .entry)) .table ⌝ }
+{
+    let answer = tables::widest(left, right, keep, table);
+    let f = widest_returned(answer);
+    hand_out(f, file, p, q)
+}

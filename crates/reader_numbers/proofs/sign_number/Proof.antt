@@ -1,0 +1,30 @@
+-- `reader_numbers::sign_number` meets its contract, by the callees' contracts and the laws of numbers in a row.
+use Rattle.reader_numbers.specs.Numbers.{sign-number}
+use borrow.Author.Needs.{needs}
+use Rattle.reader_numbers.proofs.sign_number.Statement.{statement}
+use Rattle.reader_numbers.proofs.sign_number.Tie as tie
+
+enum-told : tie.Need-enum-told
+enum-told c = search needs
+
+enum-told-2 : tie.Need-enum-told-2
+enum-told-2 c = search needs
+
+enum-told-3 : tie.Need-enum-told-3
+enum-told-3 c = search needs
+
+returns : tie.Need-returns
+unfolding sign-number
+returns c = rw (c .enum-told .given .1)
+
+returns-2 : tie.Need-returns-2
+unfolding sign-number
+returns-2 c = rw (c .enum-told2 .given .1)
+
+returns-3 : tie.Need-returns-3
+unfolding sign-number
+returns-3 c = rw (c .enum-told3 .given .1)
+
+pub sign-number-spec : {M : Type 1} → statement M
+sign-number-spec =
+    tie.close (tie.spec enum-told enum-told-2 enum-told-3 returns returns-2 returns-3)

@@ -1,0 +1,102 @@
+-- The record of a text as 3,100 numbers, for callers that have no Rattle types. Items past those of the text are its
+-- filling.
+use mathlib.Core.Bool.{false, cond}
+use mathlib.Core.List.{List, [], _∷_, _++_}
+use Prim.Native.Nat.{ℕ, zero, suc, _+_}
+use lib.ListN.{getD, set}
+use Rattle.reader_record.specs.declared.Name.{Name}
+use Rattle.reader_record.specs.declared.Direction.{Direction}
+use Rattle.reader_record.specs.declared.Direction.the-variants as direction
+use Rattle.reader_record.specs.declared.Channel.{Channel}
+use Rattle.reader_record.specs.declared.Sign.{Sign}
+use Rattle.reader_record.specs.declared.Sign.the-variants.{AtMost, AtLeast, Equal}
+use Rattle.reader_record.specs.declared.Comparison.{Comparison}
+use Rattle.reader_record.specs.declared.Constraint.{Constraint}
+use Rattle.reader_record.specs.declared.Location.{Location}
+use Rattle.reader_record.specs.declared.Label.{Label}
+use Rattle.reader_record.specs.declared.Label.the-variants as label
+use Rattle.reader_record.specs.declared.Edge.{Edge}
+use Rattle.reader_record.specs.declared.Text.{Text}
+use Rattle.reader_record.specs.Record.{no-name, no-channel, no-location, comparison, edge, channel}
+
+-- numbers written one after another from a place on; those past the end are dropped
+unfoldable pub put-at : List ℕ → ℕ → List ℕ → List ℕ
+put-at r at [] = r
+put-at r at (x ∷ xs) = put-at (set r at x) (at + 1) xs
+
+-- the rows f 0 to f (n - 1), one after another
+unfoldable pub rows : ℕ → (ℕ → List ℕ) → List ℕ
+rows zero f = []
+rows (suc n) f = rows n f ++ f n
+
+unfoldable pub sign-number : Sign → ℕ
+sign-number AtMost = 0
+sign-number AtLeast = 1
+sign-number Equal = 2
+
+unfoldable pub direction-number : Direction → ℕ
+direction-number direction.Unused = 0
+direction-number direction.Input = 1
+direction-number direction.Output = 2
+
+-- 1 where the edge sets the clock to 0
+abbrev pub reset-number : Edge → ℕ → ℕ
+reset-number e k = cond (getD (e .resets) k false) 1 0
+
+-- 1 for an input and 2 for an output
+unfoldable pub mark : Label → ℕ
+mark (label.Input c) = 1
+mark (label.Output c) = 2
+
+-- mark and channel
+abbrev pub label-numbers : Label → List ℕ
+label-numbers l = mark l ∷ channel l ∷ []
+
+-- place and length
+abbrev pub name-numbers : Name → List ℕ
+name-numbers n = n .place ∷ n .len ∷ []
+
+-- clock, sign and bound
+unfoldable pub comparison-numbers : Comparison → List ℕ
+comparison-numbers c = c .clock ∷ sign-number (c .sign) ∷ c .bound ∷ []
+
+-- the number of comparisons, then four of them
+unfoldable pub constraint-numbers : Constraint → List ℕ
+constraint-numbers g = g .count ∷ rows 4 (λ i. comparison-numbers (comparison g i))
+
+-- the name, then the direction
+unfoldable pub channel-numbers : Channel → List ℕ
+channel-numbers k = name-numbers (k .name) ++ direction-number (k .direction) ∷ []
+
+-- the name, then the invariant
+unfoldable pub location-numbers : Location → List ℕ
+location-numbers l = name-numbers (l .name) ++ constraint-numbers (l .invariant)
+
+-- source, target, label, guard, then the three resets
+unfoldable pub edge-numbers : Edge → List ℕ
+edge-numbers e =
+    ((e .source ∷ e .target ∷ label-numbers (e .label)) ++ constraint-numbers (e .guard)) ++
+    (reset-number e 0 ∷ reset-number e 1 ∷ reset-number e 2 ∷ [])
+
+-- channels, clocks, locations, the init location, edges, states
+unfoldable pub counts : Text → ℕ → List ℕ
+counts t states =
+    t .«channel_count» ∷ t .«clock_count» ∷ t .«location_count» ∷ t .init ∷ t .«edge_count» ∷ states ∷ []
+
+abbrev pub channel-row : Text → ℕ → List ℕ
+channel-row t i = channel-numbers (getD (t .channels) i no-channel)
+
+abbrev pub clock-row : Text → ℕ → List ℕ
+clock-row t i = name-numbers (getD (t .clocks) i no-name)
+
+abbrev pub location-row : Text → ℕ → List ℕ
+location-row t i = location-numbers (getD (t .locations) i no-location)
+
+abbrev pub edge-row : Text → ℕ → List ℕ
+edge-row t i = edge-numbers (edge t i)
+
+-- the whole record: counts at 0, channels from 6, clocks from 54, locations from 60, edges from 540
+unfoldable pub numbers : Text → ℕ → List ℕ
+numbers t states =
+    (((counts t states ++ rows 16 (channel-row t)) ++ rows 3 (clock-row t)) ++ rows 32 (location-row t)) ++
+    rows 128 (edge-row t)

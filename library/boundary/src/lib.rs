@@ -1,0 +1,115 @@
+//! The verified library's five functions, called on the caller's own thread.
+//!
+//! They go through the wrapper's declarations and return the numbers as they come, undecoded. The functions need more
+//! stack than a thread has by default: call them inside `on_large_stack`.
+
+use megzhoi::raw;
+
+/// What a call returned: code 0 or that of the refusal, and the three numbers.
+#[derive(Clone, Copy, Debug, PartialEq, Eq)]
+pub struct Returned {
+    pub code: usize,
+    pub file: usize,
+    pub p: usize,
+    pub q: usize,
+}
+
+/// Runs a call on a thread with a stack of 64 MB.
+pub fn on_large_stack<T: Send>(work: impl FnOnce() -> T + Send) -> T {
+    std::thread::scope(|scope| {
+        let thread = std::thread::Builder::new().stack_size(64 << 20).spawn_scoped(scope, work);
+        match thread.expect("a thread with a large stack").join() {
+            Ok(answer) => answer,
+            Err(panic) => std::panic::resume_unwind(panic),
+        }
+    })
+}
+
+/// Hands out places for the three numbers; they start from values no call returns.
+fn returned(call: impl FnOnce(&mut usize, &mut usize, &mut usize) -> usize) -> Returned {
+    let (mut file, mut p, mut q) = (usize::MAX, usize::MAX, usize::MAX);
+    let code = call(&mut file, &mut p, &mut q);
+    Returned { code, file, p, q }
+}
+
+pub fn read(text: &[u8], record: &mut [usize]) -> Returned {
+    // SAFETY: pointers and lengths are those of live slices that do not overlap.
+    returned(|file, p, q| unsafe {
+        raw::megzhoi_read(text.as_ptr(), text.len(), record.as_mut_ptr(), record.len(), file, p, q)
+    })
+}
+
+pub fn safe_states(text: &[u8], keep: &mut [u8]) -> Returned {
+    // SAFETY: as in `read`.
+    returned(|file, p, q| unsafe {
+        raw::megzhoi_safe_states(text.as_ptr(), text.len(), keep.as_mut_ptr(), keep.len(), file, p, q)
+    })
+}
+
+pub fn search(
+    left: &[u8],
+    right: &[u8],
+    keep: &mut [u8],
+    back: &mut [u32],
+    line: &mut [u32],
+    run: &mut [u32],
+) -> Returned {
+    // SAFETY: as in `read`.
+    returned(|file, p, q| unsafe {
+        raw::megzhoi_search(
+            left.as_ptr(),
+            left.len(),
+            right.as_ptr(),
+            right.len(),
+            keep.as_mut_ptr(),
+            keep.len(),
+            back.as_mut_ptr(),
+            back.len(),
+            line.as_mut_ptr(),
+            line.len(),
+            run.as_mut_ptr(),
+            run.len(),
+            file,
+            p,
+            q,
+        )
+    })
+}
+
+pub fn check(left: &[u8], right: &[u8], keep: &mut [u8], table: &[u8]) -> Returned {
+    // SAFETY: as in `read`.
+    returned(|file, p, q| unsafe {
+        raw::megzhoi_check(
+            left.as_ptr(),
+            left.len(),
+            right.as_ptr(),
+            right.len(),
+            keep.as_mut_ptr(),
+            keep.len(),
+            table.as_ptr(),
+            table.len(),
+            file,
+            p,
+            q,
+        )
+    })
+}
+
+pub fn widest(left: &[u8], right: &[u8], keep: &mut [u8], table: &mut [u8]) -> Returned {
+    // SAFETY: as in `read`.
+    returned(|file, p, q| unsafe {
+        raw::megzhoi_widest(
+            left.as_ptr(),
+            left.len(),
+            right.as_ptr(),
+            right.len(),
+            keep.as_mut_ptr(),
+            keep.len(),
+            table.as_mut_ptr(),
+            table.len(),
+            file,
+            p,
+            q,
+        )
+    })
+}

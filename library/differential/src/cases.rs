@@ -1,0 +1,161 @@
+//! What one call is given: texts, lengths of the lent slices, a table.
+
+use texts::{at_a_limit, damaged, early, hush, idle, noise, post, rearm, Model, Random};
+
+/// Larger products are only tried with slices too short for them, to keep the run short.
+const PAIRS_LIMIT: usize = 300_000;
+
+/// One text: mostly accepted, else with a fault, at a limit, or noise.
+pub fn text(random: &mut Random) -> Vec<u8> {
+    match random.below(100) {
+        0..=49 => {
+            let locations = random.between(1, 5);
+            Model::random(random, locations).text(random)
+        }
+        50..=74 => damaged(random),
+        75..=89 => at_a_limit(random),
+        90..=93 => noise(random),
+        _ => random.pick(&[post(), rearm(), early(), hush(), idle()]).clone(),
+    }
+}
+
+/// Two texts: near ones, equal ones, ones that share only their channels or not even those.
+pub fn two_texts(random: &mut Random) -> (Vec<u8>, Vec<u8>) {
+    let locations = random.between(1, 5);
+    let right = Model::random(random, locations);
+    let left = match random.below(100) {
+        0..=39 => right.varied(random),
+        40..=49 => right.clone(),
+        50..=64 => {
+            let mut channels = right.channels.clone();
+            random.shuffle(&mut channels);
+            Model::with_channels(random, channels, 4)
+        }
+        65..=72 => right.with_other_channels(random),
+        73..=80 => return (text(random), right.text(random)),
+        81..=88 => return (right.text(random), text(random)),
+        _ => return (text(random), text(random)),
+    };
+    match random.chance(50) {
+        true => (left.text(random), right.text(random)),
+        false => (right.text(random), left.text(random)),
+    }
+}
+
+/// The numbers of states of two texts, where both are accepted.
+pub fn sizes(left: &[u8], right: &[u8]) -> Option<(usize, usize)> {
+    Some((plain::read(left).ok()?.states, plain::read(right).ok()?.states))
+}
+
+/// Whether a walk over all pairs of states would take too long here.
+pub fn too_large(sizes: Option<(usize, usize)>) -> bool {
+    sizes.is_some_and(|(left, right)| left * right > PAIRS_LIMIT)
+}
+
+/// A length at, just under, just over or far from what is needed.
+pub fn length(random: &mut Random, need: usize) -> usize {
+    match random.below(20) {
+        0 => need.saturating_sub(1),
+        1 => random.below(need + 1),
+        2 => 0,
+        3..=9 => need,
+        10..=14 => need + 1,
+        _ => need + random.below(40),
+    }
+}
+
+/// A length that is too short.
+pub fn short(random: &mut Random, need: usize) -> usize {
+    match random.chance(50) {
+        true => need.saturating_sub(1),
+        false => random.below(need.max(1)),
+    }
+}
+
+/// A table to check: the widest one, whole or damaged, or another one.
+pub fn table(random: &mut Random, left: &[u8], right: &[u8], sizes: Option<(usize, usize)>) -> Vec<u8> {
+    let Some((rows, width)) = sizes.filter(|_| !too_large(sizes)) else {
+        let length = random.below(40);
+        return random.bytes(length);
+    };
+    let header = format!("P4\n{width} {rows}\n").into_bytes();
+    let row = width.div_ceil(8);
+    let mut table = vec![0; header.len() + rows * row];
+    table[..header.len()].copy_from_slice(&header);
+    // A refusal leaves the empty table; it is as good to try.
+    let _ = plain::widest(left, right, &mut [0; 512], &mut table);
+    let raster = Raster { header: header.len(), row, rows, width };
+    match random.below(20) {
+        0..=6 => (),
+        7..=11 => raster.flip_some(random, &mut table),
+        12 => table[header.len()..].iter_mut().for_each(|byte| *byte = random.next() as u8),
+        13 => table[header.len()..].fill(0xff),
+        14 => raster.only_start(&mut table, left, right),
+        15..=16 => raster.set_padding(random, &mut table),
+        17 => other_length(random, &mut table),
+        18 => table = other_header(random, &raster, &table),
+        _ => table[header.len()..].fill(0),
+    }
+    table
+}
+
+struct Raster {
+    header: usize,
+    row: usize,
+    rows: usize,
+    width: usize,
+}
+
+impl Raster {
+    /// Sets or clears a few bits of pairs.
+    fn flip_some(&self, random: &mut Random, table: &mut [u8]) {
+        for _ in 0..random.between(1, 3) {
+            let (s, t) = (random.below(self.rows), random.below(self.width));
+            table[self.header + s * self.row + t / 8] ^= 0x80 >> (t % 8);
+        }
+    }
+
+    fn only_start(&self, table: &mut [u8], left: &[u8], right: &[u8]) {
+        let start = |text: &[u8]| {
+            let record = plain::read(text).expect("an accepted text");
+            record.init * (record.states / record.locations.len())
+        };
+        let (s, t) = (start(left), start(right));
+        table[self.header..].fill(0);
+        table[self.header + s * self.row + t / 8] |= 0x80 >> (t % 8);
+    }
+
+    fn set_padding(&self, random: &mut Random, table: &mut [u8]) {
+        let padding = self.row * 8 - self.width;
+        for s in 0..self.rows {
+            let last = self.header + (s + 1) * self.row - 1;
+            table[last] |= random.next() as u8 & ((1_u16 << padding) - 1) as u8;
+        }
+    }
+}
+
+fn other_length(random: &mut Random, table: &mut Vec<u8>) {
+    match random.below(4) {
+        0 => drop(table.pop()),
+        1 => table.push(0),
+        2 => table.truncate(random.below(12)),
+        _ => table.truncate(0),
+    }
+}
+
+/// The same raster under a header that differs; often of the right total length.
+fn other_header(random: &mut Random, raster: &Raster, table: &[u8]) -> Vec<u8> {
+    let (width, rows) = (raster.width, raster.rows);
+    let header = match random.below(9) {
+        0 => format!("P5\n{width} {rows}\n"),
+        1 => format!("P4 {width} {rows}\n"),
+        2 => format!("P4\n{width}\n{rows}\n"),
+        3 => format!("P4\n{width} {rows} "),
+        4 => format!("P4\n0{width} {rows}\n"),
+        5 => format!("P4\n{} {rows}\n", width + 1),
+        6 => format!("P4\n{width} {}\n", rows + 1),
+        7 => format!("P4\n# {width}\n{width} {rows}\n"),
+        _ => format!("P4\r\n{width} {rows}\n"),
+    };
+    [header.as_bytes(), &table[raster.header..]].concat()
+}

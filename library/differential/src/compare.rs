@@ -1,0 +1,226 @@
+//! One call made twice, by the library and in plain Rust, and everything it returns or writes compared.
+
+use crate::cases;
+use boundary::Returned;
+use std::fmt::Debug;
+use texts::Random;
+
+/// Entries after a lent slice; no call may touch them.
+const BEYOND: usize = 16;
+
+/// A call that was made: what it returned, and every difference found.
+pub struct Made {
+    pub returned: Returned,
+    pub differences: Vec<String>,
+    /// What was given, for a report.
+    pub given: Vec<(&'static str, Vec<u8>)>,
+    pub lengths: String,
+}
+
+impl Made {
+    fn new(library: Returned, plain: Returned, given: Vec<(&'static str, Vec<u8>)>, lengths: String) -> Made {
+        let mut made = Made { returned: library, differences: Vec::new(), given, lengths };
+        made.compare("returned", &library, &plain);
+        made
+    }
+
+    fn compare<T: PartialEq + Debug + ?Sized>(&mut self, what: &str, library: &T, plain: &T) {
+        if library != plain {
+            self.differences.push(format!("{what}:\n  library {library:?}\n  plain   {plain:?}"));
+        }
+    }
+
+    fn compare_lent<T: PartialEq + Debug>(&mut self, what: &str, library: &Lent<T>, plain: &Lent<T>) {
+        self.compare(what, &library.entries[..library.length], &plain.entries[..plain.length]);
+        self.compare_beyond(what, library, plain);
+    }
+
+    fn compare_beyond<T: PartialEq + Debug>(&mut self, what: &str, library: &Lent<T>, plain: &Lent<T>) {
+        let what = format!("past the end of {what}");
+        self.compare(&what, &library.entries[library.length..], &plain.entries[plain.length..]);
+    }
+}
+
+/// A slice to lend, filled with a random pattern, and some entries after it.
+#[derive(Clone)]
+struct Lent<T> {
+    entries: Vec<T>,
+    length: usize,
+}
+
+impl<T> Lent<T> {
+    fn new(random: &mut Random, length: usize, entry: impl Fn(u64) -> T) -> Lent<T> {
+        let entries = (0..length + BEYOND).map(|_| entry(random.next())).collect();
+        Lent { entries, length }
+    }
+
+    fn slice(&mut self) -> &mut [T] {
+        &mut self.entries[..self.length]
+    }
+}
+
+fn lent_bytes(random: &mut Random, length: usize) -> Lent<u8> {
+    Lent::new(random, length, |number| number as u8)
+}
+
+fn lent_words(random: &mut Random, length: usize) -> Lent<u32> {
+    Lent::new(random, length, |number| number as u32)
+}
+
+/// A plain answer in the form in which the library returns it.
+fn plainly<T>(answer: Result<T, plain::Refusal>, values: impl Fn(T) -> (usize, usize)) -> Returned {
+    match answer {
+        Err(plain::Refusal { code, file, p, q }) => Returned { code, file, p, q },
+        Ok(answer) => {
+            let (p, q) = values(answer);
+            Returned { code: 0, file: 0, p, q }
+        }
+    }
+}
+
+pub fn read(random: &mut Random) -> Made {
+    let text = cases::text(random);
+    let length = match random.below(4) {
+        0 => random.below(plain::RECORD_ENTRIES),
+        1 => plain::RECORD_ENTRIES + random.below(9),
+        _ => plain::RECORD_ENTRIES,
+    };
+    let mut library = Lent::new(random, length, |number| number as usize);
+    let before = library.clone();
+    let answer = plain::read(&text);
+    let returned = boundary::read(&text, library.slice());
+    let lengths = format!("record {length}");
+    let plainly = plainly(answer.as_ref().map_err(|refusal| *refusal), |record| (record.states, 0));
+    let mut made = Made::new(returned, plainly, vec![("text", text)], lengths);
+    made.compare_beyond("record", &library, &before);
+    match answer {
+        Err(_) => made.compare_lent("record", &library, &before),
+        Ok(record) => compare_record(&mut made, &record, &library, &before),
+    }
+    made
+}
+
+/// Compares the entries of the text's own items, and those past the record's last one.
+fn compare_record(made: &mut Made, record: &plain::Record, library: &Lent<usize>, before: &Lent<usize>) {
+    let (mut some, mut other) = (vec![0; library.length], vec![usize::MAX; library.length]);
+    record.write(&mut some);
+    record.write(&mut other);
+    for i in 0..library.length {
+        if some[i] == other[i] {
+            made.compare(&format!("entry {i} of record"), &library.entries[i], &some[i]);
+        } else if i >= plain::RECORD_ENTRIES {
+            made.compare(&format!("entry {i} of record"), &library.entries[i], &before.entries[i]);
+        }
+    }
+}
+
+pub fn safe_states(random: &mut Random) -> Made {
+    let text = cases::text(random);
+    let states = plain::read(&text).map_or(40, |record| record.states);
+    let length = cases::length(random, states.div_ceil(8));
+    let mut library = lent_bytes(random, length);
+    let mut plain = library.clone();
+    let returned = boundary::safe_states(&text, library.slice());
+    let answer = plain::safe_states(&text, plain.slice());
+    let plainly = plainly(answer, |safe| (safe.count, usize::from(safe.start)));
+    let mut made = Made::new(returned, plainly, vec![("text", text)], format!("keep {length}"));
+    made.compare_lent("keep", &library, &plain);
+    made
+}
+
+/// The slices a search borrows.
+#[derive(Clone)]
+struct Borrowed {
+    keep: Lent<u8>,
+    back: Lent<u32>,
+    line: Lent<u32>,
+    run: Lent<u32>,
+}
+
+pub fn search(random: &mut Random) -> Made {
+    let (left, right) = cases::two_texts(random);
+    let mut library = borrowed(random, &left, &right);
+    let before = library.clone();
+    let mut plain = library.clone();
+    let Borrowed { keep, back, line, run } = &mut library;
+    let returned = boundary::search(&left, &right, keep.slice(), back.slice(), line.slice(), run.slice());
+    let Borrowed { keep, back, line, run } = &mut plain;
+    let answer = plain::search(&left, &right, keep.slice(), back.slice(), line.slice(), run.slice());
+    let lengths = [keep.length, back.length, line.length, run.length];
+    let lengths = format!("keep, back, line, run {lengths:?}");
+    let given = vec![("left", left), ("right", right)];
+    let mut made = Made::new(returned, plainly(answer, |steps| (steps, 0)), given, lengths);
+    made.compare_lent("keep", &library.keep, &plain.keep);
+    made.compare_lent("run", &library.run, &plain.run);
+    // What back and line hold is free on success and after 21, elsewhere they are as they came.
+    let free = matches!(made.returned.code, 0 | 21);
+    for (what, now, then) in [("back", &library.back, &before.back), ("line", &library.line, &before.line)] {
+        match free {
+            true => made.compare_beyond(what, now, then),
+            false => made.compare_lent(what, now, then),
+        }
+    }
+    made
+}
+
+fn borrowed(random: &mut Random, left: &[u8], right: &[u8]) -> Borrowed {
+    let sizes = cases::sizes(left, right);
+    let (rows, width) = sizes.unwrap_or((10, 10));
+    let keep = cases::length(random, rows.div_ceil(8));
+    let (back, line) = match cases::too_large(sizes) {
+        true => (random.below(100), random.below(100)),
+        false if random.chance(10) => (rows * width, cases::short(random, rows * width)),
+        false if random.chance(10) => (cases::short(random, rows * width), rows * width),
+        false => (rows * width + random.below(3), rows * width + random.below(3)),
+    };
+    let mut run = random.below(4);
+    if !cases::too_large(sizes) {
+        let (mut back, mut line) = (vec![0; rows * width], vec![0; rows * width]);
+        let answer = plain::search(left, right, &mut [0; 512], &mut back, &mut line, &mut []);
+        let steps = answer.map_or_else(|refusal| if refusal.code == 21 { refusal.p } else { 0 }, |steps| steps);
+        run = cases::length(random, steps);
+    }
+    Borrowed {
+        keep: lent_bytes(random, keep),
+        back: lent_words(random, back),
+        line: lent_words(random, line),
+        run: lent_words(random, run),
+    }
+}
+
+pub fn check(random: &mut Random) -> Made {
+    let (left, right) = cases::two_texts(random);
+    let sizes = cases::sizes(&left, &right);
+    let table = cases::table(random, &left, &right, sizes);
+    let length = cases::length(random, sizes.map_or(4, |(rows, _)| rows.div_ceil(8)));
+    let mut library = lent_bytes(random, length);
+    let mut plain = library.clone();
+    let returned = boundary::check(&left, &right, library.slice(), &table);
+    let answer = plain::check(&left, &right, plain.slice(), &table);
+    let given = vec![("left", left), ("right", right), ("table", table)];
+    let mut made = Made::new(returned, plainly(answer, |pairs| (pairs, 0)), given, format!("keep {length}"));
+    made.compare_lent("keep", &library, &plain);
+    made
+}
+
+pub fn widest(random: &mut Random) -> Made {
+    let (left, right) = cases::two_texts(random);
+    let sizes = cases::sizes(&left, &right);
+    let (rows, width) = sizes.unwrap_or((10, 10));
+    let need = format!("P4\n{width} {rows}\n").len() + rows * width.div_ceil(8);
+    let keep = cases::length(random, rows.div_ceil(8));
+    let table = match cases::too_large(sizes) {
+        true => cases::short(random, need),
+        false => cases::length(random, need),
+    };
+    let (mut of_library, mut table_of_library) = (lent_bytes(random, keep), lent_bytes(random, table));
+    let (mut of_plain, mut table_of_plain) = (of_library.clone(), table_of_library.clone());
+    let returned = boundary::widest(&left, &right, of_library.slice(), table_of_library.slice());
+    let answer = plain::widest(&left, &right, of_plain.slice(), table_of_plain.slice());
+    let plainly = plainly(answer, |widest| (widest.pairs, usize::from(widest.start)));
+    let given = vec![("left", left), ("right", right)];
+    let mut made = Made::new(returned, plainly, given, format!("keep, table {:?}", [keep, table]));
+    made.compare_lent("keep", &of_library, &of_plain);
+    made.compare_lent("table", &table_of_library, &table_of_plain);
+    made
+}

@@ -1,0 +1,161 @@
+//! Document 01 in plain Rust: the five operations over lent slices.
+//!
+//! Nothing here is proved. It was written from the document alone and serves two ends: the
+//! differential test compares the verified library with it, and the benchmark measures the
+//! library against it. Left means the draft, right the contract.
+
+#![forbid(unsafe_code)]
+
+mod moves;
+mod pairing;
+mod reader;
+mod record;
+mod safe;
+mod search;
+mod table;
+mod token;
+
+pub use record::RECORD_ENTRIES;
+pub use record::{Channel, Comparison, Comparisons, Direction, Edge, Label, Location, Name, Record, Sign};
+pub use search::search_counted;
+
+use moves::System;
+use safe::{prune, write_keep, SafeSet};
+
+/// What a refused call returns: the code, the file mark and two values.
+#[derive(Clone, Copy, Debug, PartialEq, Eq)]
+pub struct Refusal {
+    pub code: usize,
+    pub file: usize,
+    pub p: usize,
+    pub q: usize,
+}
+
+impl Refusal {
+    fn new(code: usize, file: usize, p: usize, q: usize) -> Refusal {
+        Refusal { code, file, p, q }
+    }
+}
+
+/// The answer of the safe-state operation.
+#[derive(Clone, Copy, Debug, PartialEq, Eq)]
+pub struct Safe {
+    pub count: usize,
+    pub start: bool,
+}
+
+/// The answer of the widest-table operation.
+#[derive(Clone, Copy, Debug, PartialEq, Eq)]
+pub struct Widest {
+    pub pairs: usize,
+    pub start: bool,
+}
+
+/// A text longer than this is refused with code 1.
+const TEXT_LIMIT: usize = 32_768;
+
+/// Two texts that were read and whose channels pair up, ready for a walk over pairs of states.
+struct Pair {
+    left: System,
+    /// The right's moves stand in the order of the left's channels.
+    right: System,
+    safe: SafeSet,
+}
+
+/// Reads a text and judges codes 1 to 11.
+pub fn read(text: &[u8]) -> Result<Record, Refusal> {
+    judge_length(text, 1)?;
+    read_text(text, 1).map(|(record, _)| record)
+}
+
+/// Marks the safe states in `keep` and counts them.
+pub fn safe_states(text: &[u8], keep: &mut [u8]) -> Result<Safe, Refusal> {
+    judge_length(text, 1)?;
+    let (_, system) = read_text(text, 1)?;
+    judge_keep(system.states, keep)?;
+    let safe = SafeSet::of(&system);
+    write_keep(&safe, keep);
+    Ok(Safe { count: safe.count, start: safe.member[system.start] })
+}
+
+/// Searches for the least of the shortest departures; gives its length, 0 if there is none.
+pub fn search(
+    left: &[u8],
+    right: &[u8],
+    keep: &mut [u8],
+    back: &mut [u32],
+    line: &mut [u32],
+    run: &mut [u32],
+) -> Result<usize, Refusal> {
+    search_counted(left, right, keep, back, line, run).map(|(steps, _)| steps)
+}
+
+/// Checks that the given table is a refinement relation; gives the number of its pairs.
+pub fn check(left: &[u8], right: &[u8], keep: &mut [u8], table: &[u8]) -> Result<usize, Refusal> {
+    let pair = read_pair(left, right)?;
+    judge_keep(pair.left.states, keep)?;
+    let shape = table::Shape::of(&pair);
+    if !shape.fits(table) {
+        return Err(Refusal::new(16, 0, 0, 0));
+    }
+    write_keep(&pair.safe, keep);
+    judge_start(&pair)?;
+    table::check(&pair, &shape, table)
+}
+
+/// Writes the largest refinement relation as a table; gives its pairs and whether the start is one.
+pub fn widest(left: &[u8], right: &[u8], keep: &mut [u8], table: &mut [u8]) -> Result<Widest, Refusal> {
+    let pair = read_pair(left, right)?;
+    judge_keep(pair.left.states, keep)?;
+    let shape = table::Shape::of(&pair);
+    if table.len() < shape.bytes() {
+        return Err(Refusal::new(14, 0, shape.bytes(), 0));
+    }
+    write_keep(&pair.safe, keep);
+    judge_start(&pair)?;
+    Ok(table::widest(&pair, &shape, table))
+}
+
+fn judge_length(text: &[u8], file: usize) -> Result<(), Refusal> {
+    if text.len() > TEXT_LIMIT {
+        return Err(Refusal::new(1, file, 0, 0));
+    }
+    Ok(())
+}
+
+/// Reads one text whose length was judged before: codes 2 to 11.
+fn read_text(text: &[u8], file: usize) -> Result<(Record, System), Refusal> {
+    let marked = |fault: record::Fault| Refusal::new(fault.code, file, fault.p, fault.q);
+    let mut record = reader::read(text).map_err(marked)?;
+    let system = System::of(&mut record).map_err(marked)?;
+    Ok((record, system))
+}
+
+/// Reads both texts, pairs their channels and finds the left's safe states: codes 1 to 12.
+fn read_pair(left: &[u8], right: &[u8]) -> Result<Pair, Refusal> {
+    judge_length(left, 1)?;
+    judge_length(right, 2)?;
+    let (left_record, mut left_system) = read_text(left, 1)?;
+    let (right_record, right_system) = read_text(right, 2)?;
+    let partner = pairing::partners(left, &left_record, right, &right_record)?;
+    let right_system = right_system.reordered(&partner);
+    let safe = SafeSet::of(&left_system);
+    prune(&mut left_system, &safe);
+    Ok(Pair { left: left_system, right: right_system, safe })
+}
+
+fn judge_keep(states: usize, keep: &[u8]) -> Result<(), Refusal> {
+    let need = states.div_ceil(8);
+    if keep.len() < need {
+        return Err(Refusal::new(13, 0, need, 0));
+    }
+    Ok(())
+}
+
+/// Code 17: the left's start is not safe.
+fn judge_start(pair: &Pair) -> Result<(), Refusal> {
+    if pair.safe.member[pair.left.start] {
+        return Ok(());
+    }
+    Err(Refusal::new(17, 1, pair.left.start, 0))
+}

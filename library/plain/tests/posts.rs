@@ -1,0 +1,120 @@
+//! The posts of document 01, with the document's own numbers.
+
+use plain::{check, read, safe_states, search, widest, Refusal, Safe, Widest};
+use texts::{early, hush, idle, post, rearm};
+
+fn refused(code: usize, file: usize, p: usize, q: usize) -> Refusal {
+    Refusal { code, file, p, q }
+}
+
+fn departure(left: &[u8], right: &[u8]) -> Result<Vec<u32>, Refusal> {
+    let (mut back, mut line) = (vec![0; 10_000], vec![0; 10_000]);
+    let mut run = vec![0; 100];
+    let steps = search(left, right, &mut [0; 16], &mut back, &mut line, &mut run)?;
+    Ok(run[..steps].to_vec())
+}
+
+fn make(left: &[u8], right: &[u8]) -> (Widest, Vec<u8>) {
+    let mut table = vec![0xaa; 29];
+    let answer = widest(left, right, &mut [0; 2], &mut table).unwrap();
+    (answer, table)
+}
+
+fn with(old: &str, new: &str) -> Vec<u8> {
+    let text = String::from_utf8(post()).unwrap();
+    assert!(text.contains(old));
+    text.replacen(old, new, 1).into_bytes()
+}
+
+#[test]
+fn post_has_10_states_9_safe() {
+    assert_eq!(read(&post()).unwrap().states, 10);
+    let mut keep = [0xff; 3];
+    assert_eq!(safe_states(&post(), &mut keep), Ok(Safe { count: 9, start: true }));
+    assert_eq!(keep, [0b1111_0111, 0b1100_0000, 0xff]);
+}
+
+#[test]
+fn hush_has_5_safe_and_is_refused_as_left() {
+    assert_eq!(safe_states(&hush(), &mut [0; 2]), Ok(Safe { count: 5, start: false }));
+    assert_eq!(departure(&hush(), &post()), Err(refused(17, 1, 0, 0)));
+}
+
+#[test]
+fn departures() {
+    assert_eq!(departure(&post(), &post()), Ok(vec![]));
+    assert_eq!(departure(&early(), &post()).unwrap().len(), 3);
+    assert_eq!(departure(&idle(), &post()).unwrap().len(), 4);
+    assert_eq!(departure(&post(), &idle()).unwrap().len(), 4);
+    assert_eq!(departure(&post(), &hush()).unwrap().len(), 4);
+    assert_eq!(departure(&rearm(), &post()), Ok(vec![0, 0, 0, 2, 0]));
+}
+
+#[test]
+fn widest_table_of_post() {
+    let (answer, table) = make(&post(), &post());
+    assert_eq!(answer, Widest { pairs: 29, start: true });
+    let rows: [[u8; 2]; 10] = [
+        [0x80, 0x00],
+        [0x40, 0x00],
+        [0x20, 0x00],
+        [0x10, 0x00],
+        [0x00, 0x00],
+        [0x07, 0xc0],
+        [0x07, 0xc0],
+        [0x07, 0xc0],
+        [0x07, 0xc0],
+        [0x07, 0xc0],
+    ];
+    let expected: Vec<u8> = b"P4\n10 10\n".iter().copied().chain(rows.concat()).collect();
+    assert_eq!(table, expected);
+    assert_eq!(check(&post(), &post(), &mut [0; 2], &table), Ok(29));
+}
+
+#[test]
+fn widest_table_of_rearm_lacks_the_start() {
+    assert_eq!(make(&rearm(), &post()).0, Widest { pairs: 25, start: false });
+}
+
+#[test]
+fn given_tables() {
+    let mut diagonal = b"P4\n10 10\n".to_vec();
+    let mut only_start = diagonal.clone();
+    for s in 0..10 {
+        let bit = if s == 4 { 0 } else { 0x8000_u16 >> s };
+        diagonal.extend_from_slice(&bit.to_be_bytes());
+        only_start.extend_from_slice(&(if s == 0 { bit } else { 0 }).to_be_bytes());
+    }
+    assert_eq!(check(&post(), &post(), &mut [0; 2], &diagonal), Ok(9));
+    assert_eq!(check(&post(), &post(), &mut [0; 2], &only_start), Err(refused(20, 0, 0, 0)));
+}
+
+#[test]
+fn refused_texts() {
+    assert_eq!(read(b""), Err(refused(2, 1, 0, 0)));
+    assert_eq!(read(b"process \n"), Err(refused(2, 1, 9, 0)));
+    assert!(read(&with("x >= 3", "x >= 1000")).is_ok());
+    let place = String::from_utf8(post()).unwrap().find("x >= 3").unwrap() + 5;
+    assert_eq!(read(&with("x >= 3", "x >= 1001")), Err(refused(6, 1, place, 0)));
+    assert_eq!(read(&with(",\nDone -> Done { sync spike?; }", "")), Err(refused(10, 1, 5, 2)));
+    let second = "trans\nWait -> Done { sync pass?; },";
+    assert_eq!(read(&with("trans", second)), Err(refused(11, 1, 0, 1)));
+}
+
+#[test]
+fn state_limit() {
+    let text = |locations: &str| {
+        let guard = "trans A -> A { guard x <= 1000; sync c!; };";
+        format!("broadcast chan c; process P() {{ clock x; state {locations}; init A; {guard} }} system P;")
+    };
+    assert_eq!(read(text("A, B, C, D").as_bytes()).unwrap().states, 4_008);
+    assert_eq!(read(text("A, B, C, D, E").as_bytes()), Err(refused(9, 1, 5_010, 0)));
+}
+
+#[test]
+fn short_table() {
+    let mut table = [0xaa; 28];
+    let answer = widest(&post(), &post(), &mut [0; 2], &mut table);
+    assert_eq!(answer, Err(refused(14, 0, 29, 0)));
+    assert_eq!(table, [0xaa; 28]);
+}

@@ -1,0 +1,162 @@
+//! Document 01's marker posts through the wrapper. Every expected value is the document's.
+use megzhoi::{check, read, safe_states, search, widest, Direction, Label, Refusal, Sign, KEEP_BYTES};
+
+const POST: &str = "broadcast chan pass, spike, late;
+process Post() {
+clock x;
+state Wait { x <= 3 }, Done;
+init Wait;
+trans
+Wait -> Done { sync pass?; },
+Wait -> Wait { sync spike?; },
+Wait -> Done { guard x >= 3; sync late!; },
+Done -> Done { sync pass?; },
+Done -> Done { sync spike?; };
+}
+system Post;
+";
+
+/// A text with one part replaced, which must be there.
+fn changed(text: &str, old: &str, new: &str) -> String {
+    assert!(text.contains(old), "{old}");
+    text.replace(old, new)
+}
+
+fn rearm() -> String {
+    changed(POST, "Wait -> Wait { sync spike?; }", "Wait -> Wait { sync spike?; assign x = 0; }")
+}
+
+fn early() -> String {
+    changed(POST, "3", "2")
+}
+
+fn hush() -> String {
+    changed(POST, "Wait -> Done { guard x >= 3; sync late!; },\n", "")
+}
+
+fn idle() -> String {
+    changed(&hush(), " { x <= 3 }", "")
+}
+
+fn refused<T>(code: usize, file: usize, p: usize, q: usize) -> Result<T, Refusal> {
+    Err(Refusal { code, file, p, q })
+}
+
+/// The steps of a shortest departure, with room enough in every slice.
+fn departure(left: &str, right: &str) -> Result<Vec<u32>, Refusal> {
+    let (mut keep, mut back, mut line, mut run) = ([0; KEEP_BYTES], vec![0; 16384], vec![0; 16384], vec![0; 16384]);
+    let n = search(left.as_bytes(), right.as_bytes(), &mut keep, &mut back, &mut line, &mut run)?;
+    Ok(run[..n].to_vec())
+}
+
+fn count(left: &str, right: &str) -> Result<usize, Refusal> {
+    departure(left, right).map(|run| run.len())
+}
+
+fn checked(table: &[u8]) -> Result<usize, Refusal> {
+    check(POST.as_bytes(), POST.as_bytes(), &mut [0; KEEP_BYTES], table)
+}
+
+/// A table of ten by ten with the pairs given.
+fn table(pairs: &[(usize, usize)]) -> Vec<u8> {
+    let mut bytes = b"P4\n10 10\n".to_vec();
+    bytes.resize(29, 0);
+    for (s, t) in pairs {
+        bytes[9 + 2 * s + t / 8] |= 0x80 >> (t % 8);
+    }
+    bytes
+}
+
+#[test]
+fn record_of_post() {
+    let record = read(POST.as_bytes()).unwrap();
+    let names: Vec<&str> = record.channels.iter().map(|c| &POST[c.name.clone()]).collect();
+    assert_eq!(names, ["pass", "spike", "late"]);
+    let directions: Vec<Direction> = record.channels.iter().map(|c| c.direction).collect();
+    assert_eq!(directions, [Direction::Input, Direction::Input, Direction::Output]);
+    assert_eq!(record.clocks.iter().map(|c| &POST[c.clone()]).collect::<Vec<_>>(), ["x"]);
+    assert_eq!(record.locations.iter().map(|l| &POST[l.name.clone()]).collect::<Vec<_>>(), ["Wait", "Done"]);
+    let invariant = record.locations[0].invariant[0];
+    assert_eq!((invariant.clock, invariant.sign, invariant.bound), (0, Sign::AtMost, 3));
+    assert_eq!((record.locations[0].invariant.len(), record.locations[1].invariant.len()), (1, 0));
+    assert_eq!((record.init, record.states, record.edges.len()), (0, 10, 5));
+    let late = &record.edges[2];
+    assert_eq!((late.source, late.target, late.label, late.resets), (0, 1, Label::Output(3), [false; 3]));
+    assert_eq!((late.guard.len(), late.guard[0].sign, late.guard[0].bound), (1, Sign::AtLeast, 3));
+    assert_eq!(record.edges[4].label, Label::Input(2));
+    assert_eq!(read(rearm().as_bytes()).unwrap().edges[1].resets, [true, false, false]);
+}
+
+#[test]
+fn safe_states_of_posts() {
+    let mut keep = [0xff; 3];
+    let safe = safe_states(POST.as_bytes(), &mut keep).unwrap();
+    assert_eq!((safe.count, safe.start, keep), (9, true, [0xf7, 0xc0, 0xff]));
+    let safe = safe_states(hush().as_bytes(), &mut keep).unwrap();
+    assert_eq!((safe.count, safe.start), (5, false));
+    assert_eq!(safe_states(POST.as_bytes(), &mut [0; 1]), refused(13, 0, 2, 0));
+}
+
+#[test]
+fn departures() {
+    assert_eq!(count(POST, POST), Ok(0));
+    assert_eq!(count(&early(), POST), Ok(3));
+    assert_eq!(count(&idle(), POST), Ok(4));
+    assert_eq!(count(POST, &idle()), Ok(4));
+    assert_eq!(count(POST, &hush()), Ok(4));
+    assert_eq!(departure(&rearm(), POST), Ok(vec![0, 0, 0, 2, 0]));
+    assert_eq!(count(&hush(), POST), refused(17, 1, 0, 0));
+}
+
+#[test]
+fn slices_too_short() {
+    let (left, right) = (rearm(), POST);
+    let mut scratch = [vec![0; 100], vec![0; 100], vec![0; 4]];
+    let [back, line, run] = &mut scratch;
+    let (l, r) = (left.as_bytes(), right.as_bytes());
+    assert_eq!(search(l, r, &mut [], back, line, run), refused(13, 0, 2, 0));
+    assert_eq!(search(l, r, &mut [0; 2], &mut back[..99], line, run), refused(15, 0, 100, 0));
+    assert_eq!(search(l, r, &mut [0; 2], back, &mut line[..99], run), refused(15, 0, 100, 0));
+    assert_eq!(search(l, r, &mut [0; 2], back, line, run), refused(21, 0, 5, 0));
+    assert_eq!(widest(r, r, &mut [0; 2], &mut [0; 28]), refused(14, 0, 29, 0));
+}
+
+#[test]
+fn tables() {
+    let mut made = [0xaa; 30];
+    let answer = widest(POST.as_bytes(), POST.as_bytes(), &mut [0; 2], &mut made).unwrap();
+    assert_eq!((answer.pairs, answer.start), (29, true));
+    let mut expected = b"P4\n10 10\n".to_vec();
+    expected.extend([0x80, 0, 0x40, 0, 0x20, 0, 0x10, 0, 0, 0]);
+    expected.extend([0x07, 0xc0].repeat(5));
+    expected.push(0xaa);
+    assert_eq!(made[..], expected[..]);
+    assert_eq!(checked(&made[..29]), Ok(29));
+    assert_eq!(checked(&made), refused(16, 0, 0, 0));
+    let diagonal: Vec<(usize, usize)> = (0..10).filter(|s| *s != 4).map(|s| (s, s)).collect();
+    assert_eq!(checked(&table(&diagonal)), Ok(9));
+    assert_eq!(checked(&table(&[(0, 0)])), refused(20, 0, 0, 0));
+    assert_eq!(checked(&table(&[])), refused(18, 0, 0, 0));
+    let answer = widest(rearm().as_bytes(), POST.as_bytes(), &mut [0; 2], &mut made).unwrap();
+    assert_eq!((answer.pairs, answer.start), (25, false));
+}
+
+#[test]
+fn refused_texts() {
+    assert_eq!(read(b""), refused(2, 1, 0, 0));
+    assert_eq!(count(POST, ""), refused(2, 2, 0, 0));
+    assert!(read(changed(POST, "3", "1000").as_bytes()).is_ok());
+    let over = changed(POST, "x <= 3", "x <= 1001");
+    assert_eq!(read(over.as_bytes()), refused(6, 1, over.find("1001").unwrap(), 0));
+    let without = changed(POST, ",\nDone -> Done { sync spike?; }", "");
+    assert_eq!(read(without.as_bytes()), refused(10, 1, 5, 2));
+    let twice = changed(POST, "trans\n", "trans\nWait -> Done { sync pass?; },\n");
+    assert_eq!(read(twice.as_bytes()), refused(11, 1, 0, 1));
+}
+
+#[test]
+fn most_states() {
+    let text = |more: &str| format!("process P() {{ clock x; state A {{ x <= 1000 }}, {more}; init A; }} system P;");
+    assert_eq!(read(text("B, C, D").as_bytes()).unwrap().states, 4008);
+    assert_eq!(read(text("B, C, D, E").as_bytes()), refused(9, 1, 5010, 0));
+}

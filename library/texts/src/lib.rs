@@ -1,0 +1,18 @@
+//! Contract texts for tests and benchmarks: the posts of document 01, seeded random texts, texts
+//! with one fault, texts at and over each limit, and texts of a chosen size.
+
+#![forbid(unsafe_code)]
+
+mod damage;
+mod limits;
+mod model;
+mod posts;
+mod random;
+mod sized;
+
+pub use damage::{damaged, noise};
+pub use limits::at_a_limit;
+pub use model::{Comparison, Edge, Model};
+pub use posts::{early, hush, idle, post, rearm};
+pub use random::Random;
+pub use sized::{chain, drifting, full_of_edges, full_of_tokens, scaled_post, Kind};

@@ -1,0 +1,40 @@
+//! The five posts of document 01.
+
+fn build(bound: usize, invariant: bool, late: bool, rearm: bool) -> Vec<u8> {
+    let wait = if invariant { format!("Wait {{ x <= {bound} }}") } else { "Wait".to_string() };
+    let reset = if rearm { " assign x = 0;" } else { "" };
+    let late = match late {
+        true => format!("Wait -> Done {{ guard x >= {bound}; sync late!; }},\n"),
+        false => String::new(),
+    };
+    let text = format!(
+        "broadcast chan pass, spike, late;\nprocess Post() {{\nclock x;\nstate {wait}, Done;\ninit Wait;\n\
+         trans\nWait -> Done {{ sync pass?; }},\nWait -> Wait {{ sync spike?;{reset} }},\n{late}\
+         Done -> Done {{ sync pass?; }},\nDone -> Done {{ sync spike?; }};\n}}\nsystem Post;\n"
+    );
+    text.into_bytes()
+}
+
+pub fn post() -> Vec<u8> {
+    build(3, true, true, false)
+}
+
+/// A spike sets the clock to 0.
+pub fn rearm() -> Vec<u8> {
+    build(3, true, true, true)
+}
+
+/// 2 for both 3s.
+pub fn early() -> Vec<u8> {
+    build(2, true, true, false)
+}
+
+/// Without the `late!` edge.
+pub fn hush() -> Vec<u8> {
+    build(3, true, false, false)
+}
+
+/// Hush without the invariant.
+pub fn idle() -> Vec<u8> {
+    build(3, false, false, false)
+}
