@@ -2,7 +2,7 @@
 # make library builds the archive for C and Rust; c-example, differential and bench use it; picture needs Netpbm.
 DRAFT ?= examples/Rearm.xta
 CONTRACT ?= examples/Post.xta
-CARGO := cargo
+LIBRARY := target/staticlib/libmegzhoi_c.a
 
 .PHONY: run test picture library c-example differential bench
 
@@ -23,17 +23,20 @@ picture:
 	@pamenlarge 24 target/run/widest.pbm | pnmpad -black -left=2 -right=2 -top=2 -bottom=2 | pnmtopng -quiet \
 		> target/run/widest.png
 
-library:
-	@rt staticlib megzhoi_c >&2
+library: $(LIBRARY)
+
+$(LIBRARY): crates.txt $(shell find crates -name '*.rt' -o -name '*.antt')
+	@mkdir -p target/run
+	@rt staticlib megzhoi_c > target/run/library.log 2>&1 || { tail -n 20 target/run/library.log >&2; exit 1; }
 
 c-example: library
 	@mkdir -p target/run
-	@$(CC) -std=c11 -O2 -Wall -Wextra -Werror -o target/run/c-example library/example.c target/staticlib/libmegzhoi_c.a
+	@$(CC) -std=c11 -O2 -Wall -Wextra -Werror -o target/run/c-example library/example.c $(LIBRARY)
 	@target/run/c-example "$(DRAFT)" "$(CONTRACT)"
 
 differential: library
-	@$(CARGO) test --offline --release --quiet --package plain --package megzhoi
-	@$(CARGO) run --offline --release --quiet --package differential
+	@cargo test --offline --release --quiet --package plain --package megzhoi
+	@cargo run --offline --release --quiet --package differential
 
 bench: library
-	@$(CARGO) run --offline --release --quiet --package bench
+	@cargo run --offline --release --quiet --package bench

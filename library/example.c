@@ -38,7 +38,7 @@ int main(int argc, char **argv) {
                                  run, QUEUE, &file, &p, &q);
     if (code != 0) {
         printf("REFUSED %zu %zu %zu %zu\n", code, file, p, q);
-        return 1;
+        return 0;
     }
     if (p == 0) {
         puts("YES");

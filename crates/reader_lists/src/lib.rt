@@ -5,7 +5,8 @@ ghost use Prim.Native.Nat.{ℕ, _+_, _-_, _≤_, _<_};
 ghost use lib.ListN.{length, getD, set};
 ghost use Rattle.reader_record.specs.Limits.{channel-limit, clock-limit, location-limit, edge-limit};
 ghost use Rattle.reader_lists.specs.State.{no-edge, no-text, next, direction-of, marked, with-init};
-ghost use Rattle.reader_lists.specs.Lists.{channel, clock, location, edge, one-item, limit, items};
+ghost use Rattle.reader_lists.specs.Lists.{limit, items};
+ghost use Rattle.reader_lists.specs.Turns.{item, first-slot, count, unused, state-of, after-item};
 use reader_parts::FIRST_CHANNEL;
 use reader_parts::FIRST_CLOCK;
 use reader_parts::FIRST_LOCATION;
@@ -30,6 +31,19 @@ pub enum Item {
     Clock,
     Location,
     Edge,
+}
+
+// The kinds of item that declare a name.
+enum Named {
+    Channel,
+    Clock,
+    Location,
+}
+
+// How far the reader has come past an item and what stands after it, and whether another item comes.
+struct Turn {
+    status: Status,
+    more: bool,
 }
 
 // What the reader has read: how far it has come, the declared names by their slots, and the record so far.
@@ -137,156 +151,156 @@ pub fn with_init(t: Text, i: usize) -> Text
     u
 }
 
-// One channel more: its name.
-fn channel(s: &[u8], r: State) -> State
-    ensures { λ q. ⌜ q ≡ channel (now (s .entry)) r ⌝ }
+// A channel that no edge names yet.
+fn unused(name: Name) -> Channel
+    ensures { λ r. ⌜ r ≡ unused name ⌝ }
 {
-    let st = r.status;
-    let names = r.names;
-    let t = r.text;
-    let n = t.channel_count;
-    let d = reader_parts::declare(s, st, names, FIRST_CHANNEL, n, CHANNEL_LIMIT);
-    let came = d.status;
-    if CHANNEL_LIMIT <= n {
-        return State {
-            status: came,
-            names: names,
-            text: t,
-        };
-    }
-    let all = d.names;
-    let name = d.name;
     let direction = Direction::Unused;
-    let channel = Channel {
+    Channel {
         name: name,
         direction: direction,
-    };
-    let mut u = t;
-    u.channels[n] = channel;
-    u.channel_count = n + 1;
-    State {
-        status: came,
-        names: all,
-        text: u,
     }
 }
 
-// One clock more: its name.
-fn clock(s: &[u8], r: State) -> State
-    ensures { λ q. ⌜ q ≡ clock (now (s .entry)) r ⌝ }
+// The first of the slots where the names of the kind k are.
+fn first_slot(k: Named) -> usize
+    ensures { λ n. ⌜ n ≡ first-slot k ⌝ }
 {
-    let st = r.status;
-    let names = r.names;
-    let t = r.text;
-    let n = t.clock_count;
-    let d = reader_parts::declare(s, st, names, FIRST_CLOCK, n, CLOCK_LIMIT);
-    let came = d.status;
-    if CLOCK_LIMIT <= n {
-        return State {
-            status: came,
-            names: names,
-            text: t,
-        };
-    }
-    let all = d.names;
-    let name = d.name;
-    let mut u = t;
-    u.clocks[n] = name;
-    u.clock_count = n + 1;
-    State {
-        status: came,
-        names: all,
-        text: u,
+    match k {
+        Named::Channel => FIRST_CHANNEL,
+        Named::Clock => FIRST_CLOCK,
+        Named::Location => FIRST_LOCATION,
     }
 }
 
-// One location more: its name and its invariant.
-fn location(s: &[u8], r: State) -> State
-    ensures { λ q. ⌜ q ≡ location (now (s .entry)) r ⌝ }
+// How many items of the kind k a text has at most.
+fn limit(k: Named) -> usize
+    ensures { λ n. ⌜ n ≡ limit (item k) ⌝ }
 {
-    let st = r.status;
-    let names = r.names;
-    let t = r.text;
-    let n = t.location_count;
-    let d = reader_parts::declare(s, st, names, FIRST_LOCATION, n, LOCATION_LIMIT);
-    let came = d.status;
-    if LOCATION_LIMIT <= n {
-        return State {
-            status: came,
-            names: names,
-            text: t,
+    match k {
+        Named::Channel => CHANNEL_LIMIT,
+        Named::Clock => CLOCK_LIMIT,
+        Named::Location => LOCATION_LIMIT,
+    }
+}
+
+// How many items of the kind k there are, of those numbers of channels, clocks and locations.
+fn count(k: Named, channels: usize, clocks: usize, locations: usize) -> usize
+    ensures { λ n. ⌜ n ≡ count k channels clocks locations ⌝ }
+{
+    match k {
+        Named::Channel => channels,
+        Named::Clock => clocks,
+        Named::Location => locations,
+    }
+}
+
+// What stands after an item, where there is room for so many more: a comma, or the `;` of the list.
+fn after_item(s: &[u8], st: Status, room: usize) -> Turn
+    ensures { λ r. ⌜ r ≡ after-item (now (s .entry)) st room ⌝ }
+{
+    if room == 0 {
+        return Turn {
+            status: st,
+            more: false,
         };
     }
-    let all = d.names;
-    let name = d.name;
-    let i = reader_constraints::invariant(s, came, all);
-    let end = i.status;
-    let invariant = i.constraint;
-    let location = Location {
-        name: name,
-        invariant: invariant,
-    };
-    let mut u = t;
-    u.locations[n] = location;
-    u.location_count = n + 1;
-    State {
+    if reader_parts::ahead(s, st, reader_tokens::COMMA) {
+        let on = reader_parts::take(s, st, reader_tokens::COMMA);
+        return Turn {
+            status: on,
+            more: true,
+        };
+    }
+    let end = reader_parts::take(s, st, reader_tokens::SEMICOLON);
+    Turn {
         status: end,
-        names: all,
-        text: u,
+        more: false,
     }
 }
 
-// One edge more.
-fn edge(s: &[u8], r: State) -> State
-    ensures { λ q. ⌜ q ≡ edge (now (s .entry)) r ⌝ }
+// What the reader has read, from its three parts.
+fn state_of(st: Status, names: [Name; NAME_SLOTS], text: Text) -> State
+    ensures { λ r. ⌜ r ≡ state-of st names text ⌝ }
 {
-    let st = r.status;
-    let names = r.names;
-    let t = r.text;
-    let channels = t.channels;
-    let full = EDGE_LIMIT <= t.edge_count;
-    let e = reader_edges::edge_next(s, st, names, channels, full);
-    let came = e.status;
-    if full {
-        return State {
-            status: came,
-            names: names,
-            text: t,
-        };
-    }
-    let edge = e.edge;
-    let now = marked(channels, e.channel, e.input);
-    let n = t.edge_count;
-    let mut u = t;
-    u.channels = now;
-    u.edges[n] = edge;
-    u.edge_count = n + 1;
     State {
-        status: came,
+        status: st,
         names: names,
-        text: u,
+        text: text,
     }
 }
 
-fn one_item(s: &[u8], r: State, k: Item) -> State
-    ensures { λ q. ⌜ q ≡ one-item k (now (s .entry)) r ⌝ }
+// The channels, clocks or locations, joined by commas, and `;`. The record is written in place.
+fn named_items(s: &[u8], r: State, k: Named) -> State
+    ensures { λ q. ⌜ q ≡ items (item k) (now (s .entry)) r ⌝ }
 {
-    match k {
-        Item::Channel => channel(s, r),
-        Item::Clock => clock(s, r),
-        Item::Location => location(s, r),
-        Item::Edge => edge(s, r),
+    let mut st = r.status;
+    let mut names = r.names;
+    let mut text = r.text;
+    let mut room = limit(k);
+    loop {
+        let n = count(k, text.channel_count, text.clock_count, text.location_count);
+        let d = reader_parts::declare(s, st, names, first_slot(k), n, limit(k));
+        st = d.status;
+        if n < limit(k) {
+            names = d.names;
+            let name = d.name;
+            match k {
+                Named::Channel => {
+                    let channel = unused(name);
+                    text.channels[n] = channel;
+                    text.channel_count = n + 1;
+                }
+                Named::Clock => {
+                    text.clocks[n] = name;
+                    text.clock_count = n + 1;
+                }
+                Named::Location => {
+                    let i = reader_constraints::invariant(s, st, names);
+                    st = i.status;
+                    let invariant = i.constraint;
+                    let location = Location { name, invariant };
+                    text.locations[n] = location;
+                    text.location_count = n + 1;
+                }
+            }
+        }
+        let t = after_item(s, st, room);
+        st = t.status;
+        if !t.more {
+            return state_of(st, names, text);
+        }
+        room -= 1;
     }
 }
 
-fn limit(k: Item) -> usize
-    ensures { λ n. ⌜ n ≡ limit k ⌝ }
+// The edges, joined by commas, and `;`. The record is written in place.
+fn edges(s: &[u8], r: State) -> State
+    ensures { λ q. ⌜ q ≡ items Item.Edge (now (s .entry)) r ⌝ }
 {
-    match k {
-        Item::Channel => CHANNEL_LIMIT,
-        Item::Clock => CLOCK_LIMIT,
-        Item::Location => LOCATION_LIMIT,
-        Item::Edge => EDGE_LIMIT,
+    let names = r.names;
+    let mut st = r.status;
+    let mut text = r.text;
+    let mut room = EDGE_LIMIT;
+    loop {
+        let n = text.edge_count;
+        let channels = text.channels;
+        let full = EDGE_LIMIT <= n;
+        let e = reader_edges::edge_next(s, st, names, channels, full);
+        st = e.status;
+        if !full {
+            let edge = e.edge;
+            let now = marked(channels, e.channel, e.input);
+            text.channels = now;
+            text.edges[n] = edge;
+            text.edge_count = n + 1;
+        }
+        let t = after_item(s, st, room);
+        st = t.status;
+        if !t.more {
+            return state_of(st, names, text);
+        }
+        room -= 1;
     }
 }
 
@@ -294,18 +308,10 @@ fn limit(k: Item) -> usize
 pub fn items(s: &[u8], r: State, k: Item) -> State
     ensures { λ q. ⌜ q ≡ items k (now (s .entry)) r ⌝ }
 {
-    let mut q = r;
-    let mut room = limit(k);
-    loop {
-        q = one_item(s, q, k);
-        if room == 0 {
-            return q;
-        }
-        let st = q.status;
-        if !reader_parts::ahead(s, st, reader_tokens::COMMA) {
-            return next(s, q, reader_tokens::SEMICOLON);
-        }
-        q = next(s, q, reader_tokens::COMMA);
-        room -= 1;
+    match k {
+        Item::Channel => named_items(s, r, Named::Channel),
+        Item::Clock => named_items(s, r, Named::Clock),
+        Item::Location => named_items(s, r, Named::Location),
+        Item::Edge => edges(s, r),
     }
 }

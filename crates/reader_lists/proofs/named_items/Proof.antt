@@ -1,0 +1,218 @@
+-- `named_items` is `items` of the kind: the list from here on is the list from the start.
+use borrow.Author.Needs.{needs}
+use borrow.Author.Tests.{not-true, not-false}
+use native.Mathlib.Omega.{arith}
+use mathlib.Core.Path.{_≡_, sym, _∙_}
+use mathlib.Core.Logic.{⊎-elim}
+use Prim.Native.Nat.{_<_}
+use Rattle.reader_record.specs.Limits.{channel-limit, clock-limit, location-limit}
+use Rattle.reader_lists.specs.State.{with-channel, with-clock, with-location}
+use Rattle.reader_lists.specs.Lists.{channel, clock, location, one-item, limit, items-from, items}
+use Rattle.reader_lists.specs.Turns.{item, state-of}
+use Rattle.reader_lists.proofs.Laws.{items-last, items-more, more-room}
+use Rattle.reader_lists.proofs.Laws.{slots-fit, room-for, not-full, full, one-over}
+use Rattle.reader_lists.proofs.named_items.Statement.{statement}
+use Rattle.reader_lists.proofs.named_items.Tie as tie
+
+abbrev Inv-loop : tie.InvT-loop
+Inv-loop s k st₀ names₀ text₀ room₀ st names text room =
+    items-from room (item k) s (state-of st names text)
+    ≡ items-from (limit (item k)) (item k) s (state-of st₀ names₀ text₀)
+
+abbrev μ-loop : tie.MeasureT-loop
+μ-loop s k st₀ names₀ text₀ room₀ st names text room = room
+
+limit-requires : tie.Need-limit-requires Inv-loop μ-loop
+limit-requires c κs = search needs
+
+loop-holds : tie.Need-loop-holds Inv-loop μ-loop
+loop-holds c = rw (c .limit .ensures)
+
+count-requires : tie.Need-count-requires Inv-loop μ-loop
+count-requires c κs = search needs
+
+first-slot-requires : tie.Need-first-slot-requires Inv-loop μ-loop
+first-slot-requires c κs = search needs
+
+limit-requires-2 : tie.Need-limit-requires-2 Inv-loop μ-loop
+limit-requires-2 c κs = search needs
+
+declare-requires : tie.Need-declare-requires Inv-loop μ-loop
+declare-requires c κs =
+    rw (c .before .first-slot .ensures, c .limit2 .ensures)
+    (slots-fit (c .before .before .before .before .before .before .before .before .args .k))
+
+limit-requires-3 : tie.Need-limit-requires-3 Inv-loop μ-loop
+limit-requires-3 c κs = search needs
+
+enum-told : tie.Need-enum-told Inv-loop μ-loop
+enum-told c = search needs
+
+unused-requires : tie.Need-unused-requires Inv-loop μ-loop
+unused-requires c κs = search needs
+
+channel-room : (c : tie.After-unused Inv-loop μ-loop) →
+    c .before .before .before .before .before .before .before .before .before .before .count .result < channel-limit
+channel-room c =
+    room-for (c .before .before .before .before .before .if1 .taken)
+    (c .before .before .before .before .before .before .limit3 .ensures) (c .before .enum-told .given .1)
+
+mul-channel : tie.Need-mul-channel Inv-loop μ-loop
+mul-channel c = omega (arith, channel-room c)
+
+element-set-from-channel : tie.Need-element-set-from-channel Inv-loop μ-loop
+element-set-from-channel c = channel-room c
+
+add-text : tie.Need-add-text Inv-loop μ-loop
+add-text c = omega (arith, channel-room c)
+
+enum-told-2 : tie.Need-enum-told-2 Inv-loop μ-loop
+enum-told-2 c = search needs
+
+clock-room : (c : tie.After-enum-told2 Inv-loop μ-loop) →
+    c .before .before .before .before .before .before .before .before .before .count .result < clock-limit
+clock-room c =
+    room-for (c .before .before .before .before .if1 .taken)
+    (c .before .before .before .before .before .limit3 .ensures) (c .enum-told2 .given .1)
+
+mul-name : tie.Need-mul-name Inv-loop μ-loop
+mul-name c = omega (arith, clock-room c)
+
+element-set-from-name : tie.Need-element-set-from-name Inv-loop μ-loop
+element-set-from-name c = clock-room c
+
+add-text-2 : tie.Need-add-text-2 Inv-loop μ-loop
+add-text-2 c = omega (arith, clock-room c)
+
+enum-told-3 : tie.Need-enum-told-3 Inv-loop μ-loop
+enum-told-3 c = search needs
+
+invariant-requires : tie.Need-invariant-requires Inv-loop μ-loop
+invariant-requires c κs = search needs
+
+location-room : (c : tie.After-invariant2 Inv-loop μ-loop) →
+    c .before .before .before .before .before .before .before .before .before .before .before .count .result
+    < location-limit
+location-room c =
+    room-for (c .before .before .before .before .before .before .if1 .taken)
+    (c .before .before .before .before .before .before .before .limit3 .ensures)
+    (c .before .before .enum-told3 .given .1)
+
+mul-location : tie.Need-mul-location Inv-loop μ-loop
+mul-location c = omega (arith, location-room c)
+
+element-set-from-location : tie.Need-element-set-from-location Inv-loop μ-loop
+element-set-from-location c = location-room c
+
+add-text-3 : tie.Need-add-text-3 Inv-loop μ-loop
+add-text-3 c = omega (arith, location-room c)
+
+-- an item is read, and is in the record where there is room for it
+one-named :
+    (c : tie.Joined1 Inv-loop μ-loop) →
+    let loop = c .before .before .before .before .before .before .loop in
+    let args = c .before .before .before .before .before .before .before .before .before .before .before .args in
+    state-of (c .if1 .st) (c .if1 .names) (c .if1 .text)
+    ≡ one-item (item (args .k)) (args .s .now) (state-of (loop .st) (loop .names) (loop .text))
+unfolding channel clock location with-channel with-clock with-location
+one-named c =
+    let a = c .before .before in
+    let d = a .declare .ensures in
+    let f = a .before .before .first-slot .ensures in
+    let l = a .before .limit2 .ensures in
+    let n = a .before .before .before .count .ensures in
+    let m = c .before .limit3 .ensures in
+    let text = a .before .before .before .before .loop .text in
+    let k = a .before .before .before .before .before .before .before .before .before .args .k in
+    ⊎-elim
+    (λ w. rw (
+      w .6,
+      w .7,
+      w .8,
+      w .5 .ensures,
+      d,
+      f,
+      l,
+      n,
+      w .4 .given .1,
+      not-full text k m n (w .0 .taken) (w .4 .given .1),
+    ))
+    (⊎-elim
+    (λ w. rw (w .5, w .6, w .7, d, f, l, n, w .4 .given .1, not-full text k m n (w .0 .taken) (w .4 .given .1)))
+    (⊎-elim
+    (λ w. rw (
+      w .7,
+      w .8,
+      w .9,
+      w .5 .ensures,
+      d,
+      f,
+      l,
+      n,
+      w .4 .given .1,
+      not-full text k m n (w .0 .taken) (w .4 .given .1),
+    ))
+    (λ w. rw (w .1, w .2, w .3, d, f, l, n) (one-over k _ _ (full text k m n (w .0 .left))))))
+    (c .if1 .came)
+
+after-item-requires : tie.Need-after-item-requires Inv-loop μ-loop
+after-item-requires c κs = search needs
+
+state-of-requires : tie.Need-state-of-requires Inv-loop μ-loop
+state-of-requires c κs = search needs
+
+returns : tie.Need-returns Inv-loop μ-loop
+unfolding items
+returns c =
+    let loop = c .before .before .before .before .before .before .before .before .before .before .loop in
+    c .state-of .ensures ∙ (sym (items-last _ _ _ (one-named (c .before .before .before .before)) (loop .room)
+    (c .before .before .before .after-item .ensures) (not-true _ (c .before .if2 .taken))) ∙ loop .inv)
+
+sub-room : tie.Need-sub-room Inv-loop μ-loop
+sub-room c = more-room _ _ _ (c .before .before .after-item .ensures) (not-false _ (c .if2 .left))
+
+loop-less : tie.Need-loop-less Inv-loop μ-loop
+loop-less c = omega (
+  arith,
+  more-room _ _ _ (c .before .before .after-item .ensures) (not-false _ (c .if2 .left)),
+)
+
+loop-again : tie.Need-loop-again Inv-loop μ-loop
+loop-again c =
+    let loop = c .before .before .before .before .before .before .before .before .before .loop in
+    sym (items-more _ _ _ (one-named (c .before .before .before)) (loop .room)
+    (c .before .before .after-item .ensures) (not-false _ (c .if2 .left))) ∙ loop .inv
+
+pub named-items-spec : {M : Type 1} → statement M
+named-items-spec =
+    tie.close
+    (tie.spec
+    Inv-loop
+    μ-loop
+    limit-requires
+    loop-holds
+    count-requires
+    first-slot-requires
+    limit-requires-2
+    declare-requires
+    limit-requires-3
+    enum-told
+    unused-requires
+    mul-channel
+    element-set-from-channel
+    add-text
+    enum-told-2
+    mul-name
+    element-set-from-name
+    add-text-2
+    enum-told-3
+    invariant-requires
+    mul-location
+    element-set-from-location
+    add-text-3
+    after-item-requires
+    state-of-requires
+    returns
+    sub-room
+    loop-less
+    loop-again)
