@@ -1,9 +1,9 @@
 -- A raster: the rows of a table of n times w entries, each in whole bytes, padding 0.
 use mathlib.Core.Path.{_≡_}
-use mathlib.Core.Bool.{Bool, _&&_, cond}
+use mathlib.Core.Bool.{Bool, _&&_}
 use mathlib.Core.List.{List, _++_}
 use Prim.Native.Nat.{ℕ, _+_, _-_, _*_, _/_, _%_, _^_, _≤_, _<_}
-use lib.Dec.{eqb, ltb}
+use lib.Dec.{ltb}
 use lib.ListN.{length, getD, set, take, drop}
 use Rattle.systems.specs.Tests.{at, table}
 use Rattle.clocks_bits.specs.Bits.{bit-at, byte-of, tab-from}
@@ -18,10 +18,6 @@ row w X s = take w (drop (s * w) X)
 -- bit t of row s of a raster: the pair (s, t) is related
 abbrev pub set-at : ℕ → List ℕ → ℕ → ℕ → Bool
 set-at w k s t = bit-at (part (bytes w) s k) t
-
--- the column before t in row s, or the first of its byte if the byte is 0: no pair between is set
-unfoldable pub column-below : ℕ → List ℕ → ℕ → ℕ → ℕ
-column-below w k s t = cond (eqb (getD k (s * bytes w + (t - 1) / 8) 0) 0) ((t - 1) / 8 * 8) (t - 1)
 
 -- the raster without the pair (s, t), which is set: its bit taken away
 unfoldable pub without : ℕ → List ℕ → ℕ → ℕ → List ℕ

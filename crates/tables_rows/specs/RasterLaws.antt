@@ -1,13 +1,12 @@
 -- Laws of rasters: their rows as parts, a row put back, a pair taken out.
-use mathlib.Core.Path.{_≡_, refl, sym, subst, ap, _∙_}
+use mathlib.Core.Path.{_≡_, refl, sym, ap, _∙_}
 use mathlib.Core.Logic.{⊎-elim, _≢_}
-use mathlib.Core.Bool.{Bool, true, false, cond}
+use mathlib.Core.Bool.{Bool, true, false}
 use mathlib.Core.List.{List, _++_}
 use Prim.Native.Nat.{ℕ, _+_, _-_, _*_, _/_, _%_, _^_, _≤_, _<_}
-use native.Mathlib.Nat.{zero-div, mul-le-mul-right, add-mul, div-add-mod', mod-lt, div-lt-iff-lt-mul}
+use native.Mathlib.Nat.{mul-le-mul-right, add-mul, div-add-mod', mod-lt, div-lt-iff-lt-mul}
 use native.Mathlib.Decide.{ℕ-discrete}
 use native.Mathlib.Omega.{arith}
-use lib.Dec.{T, eqb, eqb→eq}
 use lib.Arith.{digits-lt, digits-div, digits-mod}
 use borrow.Author.Tests.{lt-ltb, le-ltb}
 use lib.ListN.{length, getD, set, take, drop, length-append, length-drop, length-set, List·getD-append, List·getD-eq-default}
@@ -16,7 +15,7 @@ use Rattle.systems.specs.Tests.{at, table}
 use Rattle.clocks_bits.specs.Bits.{bit-at, byte-of, byte-same, written, written-is, written-at, written-past, written-length, less}
 use Rattle.clocks_bits.specs.Moves.{most-states}
 use Rattle.clocks_bits.specs.Packed.{Packed, packed, packed-bit, packed-clear, packed-self, bytes}
-use Rattle.tables_rows.specs.Raster.{Raster, in-row, part, raster, raster-of, row, set-at, column-below, without}
+use Rattle.tables_rows.specs.Raster.{Raster, in-row, part, raster, raster-of, row, set-at, without}
 
 -- a row's end, in entries or in bytes
 pub row-end : (n b s : ℕ) → s < n → s * b + b ≤ n * b
@@ -58,25 +57,6 @@ module _ (w : ℕ) (k : List ℕ) (s t i : ℕ) (place : i ≡ 8 * (s * bytes w)
   pub place-without : set k (i / 8) (getD k (i / 8) 0 - 2 ^ (7 - i % 8)) ≡ without w k s t
   unfolding without
   place-without = rw (in-byte, at-bit)
-
--- the next column below t: those between are not set
-module _ (w : ℕ) (k : List ℕ) (s t : ℕ) (some : 0 < t) (inside : t ≤ w) where
-  byte : ℕ
-  byte = getD k (s * bytes w + (t - 1) / 8) 0
-
-  unset : byte ≡ 0 → (j : ℕ) → j / 8 ≡ (t - 1) / 8 → set-at w k s j ≡ false
-  unfolding bit-at byte
-  unset z j e = let l : (t - 1) / 8 < bytes w = omega arith in
-      rw (e, part-at (bytes w) k s ((t - 1) / 8) l, z, zero-div)
-
-  pub below-skips : (column-below w k s t < t) × ((j : ℕ) → column-below w k s t < j → j < t → set-at w k s j ≡ false)
-  unfolding column-below byte
-  below-skips = go (eqb byte 0) refl
-    where
-      go : (b : Bool) → eqb byte 0 ≡ b → (cond b ((t - 1) / 8 * 8) (t - 1) < t)
-          × ((j : ℕ) → cond b ((t - 1) / 8 * 8) (t - 1) < j → j < t → set-at w k s j ≡ false)
-      go true e = (omega arith, λ j a l. unset (eqb→eq byte 0 (subst T (sym e) tt)) j (omega arith))
-      go false e = (omega arith, λ j a l. absurd (omega arith))
 
 row-past : (n w : ℕ) (X : List Bool) (s t : ℕ) → length X ≡ n * w → s < n → w ≤ t → at (row w X s) t ≡ false
 row-past n w X s t h l m = List·getD-eq-default (row w X s) false (rw (row-length n w X s h l) m)

@@ -4,7 +4,7 @@ ghost use Prim.Native.Nat.{_+_, _-_, _*_, _/_, _≤_, _<_};
 ghost use lib.ListN.{length, set};
 ghost use Rattle.clocks_bits.specs.Moves.{most-states};
 ghost use Rattle.clocks_bits.specs.Packed.{bytes};
-ghost use Rattle.tables_rows.specs.Raster.{set-at, column-below, without};
+ghost use Rattle.tables_rows.specs.Raster.{set-at, without};
 
 // Where the pair (s, t) stands among the bits of a raster, whose rows take whole bytes.
 fn place(n: usize, w: usize, s: usize, t: usize) -> usize
@@ -31,18 +31,4 @@ pub fn clear(raster: &mut [u8], n: usize, w: usize, s: usize, t: usize)
 {
     let i = place(n, w, s, t);
     clocks_bits::clear(raster, i);
-}
-
-// The column of row s to look at next below t: the one before it, or the first of that one's byte if the byte is 0.
-pub fn column_below(raster: &[u8], n: usize, w: usize, s: usize, t: usize) -> usize
-    requires { ⌜ (n ≤ most-states) × ((w ≤ most-states) × ((s < n) × ((0 < t) × ((t ≤ w)
-        × (n * bytes w ≤ length (now raster)))))) ⌝ }
-    ensures { λ r. ⌜ r ≡ column-below w (now (raster .entry)) s t ⌝ }
-{
-    let c = t - 1;
-    let i = place(n, w, s, c) / 8;
-    if raster[i] == 0 {
-        return c / 8 * 8;
-    }
-    c
 }

@@ -4,11 +4,12 @@ use mathlib.Core.Logic.{⊎-elim, _≢_}
 use mathlib.Core.Bool.{Bool, true, false, not}
 use mathlib.Core.Option.{Option, none, some}
 use mathlib.Core.List.{List, [], _∷_}
-use Prim.Native.Nat.{ℕ, _+_, _-_, _*_, _/_, _%_, _≤_, _<_}
-use native.Mathlib.Nat.{mul-le-mul-left, mul-le-mul-right, div-add-mod', mod-lt, div-lt-iff-lt-mul}
+use Prim.Native.Nat.{ℕ, _+_, _-_, _*_, _/_, _%_, _^_, _≤_, _<_}
+use native.Mathlib.Nat.{zero-div, mul-le-mul-left, mul-le-mul-right, div-add-mod', mod-lt, div-lt-iff-lt-mul}
 use native.Mathlib.Decide.{ℕ-discrete}
 use native.Mathlib.Omega.{arith}
 use lib.Dec.{T, T-not}
+use borrow.Author.Tests.{eq-eqb}
 use lib.Arith.{digits-div, digits-mod}
 use lib.ListN.{length, getD, set, List·getD-eq-default}
 use lib.Seq.{ext-getD, getD-set-other}
@@ -19,16 +20,16 @@ use Rattle.systems.specs.Definitions.{Signature}
 use Rattle.systems.specs.Finite.{Finite-system, pruned, pair-ok, pairs, widest, cell}
 use Rattle.systems.specs.Departure.{pruned-elim}
 use Rattle.systems.specs.Refinement.{Pair, Moves, rule-moves, moves-rule, pair-sound, pair-complete, pair-rule, pairs-elim}
-use Rattle.clocks_bits.specs.Bits.{less}
+use Rattle.clocks_bits.specs.Bits.{bit-at, less}
 use Rattle.clocks_bits.specs.Moves.{decode, decode-inside, Bounded, most-states}
 use Rattle.clocks_bits.specs.Given.{Given}
-use Rattle.clocks_bits.specs.Packed.{ones-clear}
+use Rattle.clocks_bits.specs.Packed.{bytes, ones-clear}
 use Rattle.clocks_safe.specs.Settle.{length-table, length-stage, same-table}
 use Rattle.tables_rows.specs.Raster.{Raster, Table, set-at, without}
-use Rattle.tables_rows.specs.RasterLaws.{raster-bit, raster-without}
+use Rattle.tables_rows.specs.RasterLaws.{part-at, raster-bit, raster-without}
 use Rattle.tables_check.specs.Fault.{ok-of, fails-at, first-bad}
 use Rattle.tables_check.specs.Exact.{first-bad-fails, first-bad-none}
-use Rattle.tables_widest.specs.Sweep.{Counted, matched, Matched, Row-matched, Rows-matched, Settled, Sweeps, Swept}
+use Rattle.tables_widest.specs.Sweep.{bit-in, Kept-before, Columns-matched, Counted, matched, Matched, Row-matched, Rows-matched, Settled, Sweeps, Swept}
 
 abbrev pub raster-self : {n w : ℕ} {X : List Bool} {d k : List ℕ} → Raster n w X d k → Table n w k
 raster-self {n} {w} {X} R = record {
@@ -205,23 +206,56 @@ widest-done {lm} {rm} {n} {w} {steps} wide {X} long all A L R G B =
     (between-done (pair-rule L R) (pairs L R) X B (all-keep G B wide long all) (L .size * R .size)
     (ones-table (L .size * R .size) _))
 
--- a column more, where those between it and the last are not set; a row more
-pub columns-more : {lm rm : List ℕ} {n w steps : ℕ} {k₀ k k′ : List ℕ} (s t u r q : ℕ) → s < n → u ≤ w
-    → ((j : ℕ) → t < j → j < u → set-at w k s j ≡ false)
-    → Sweeps lm rm n w steps (Row-matched lm rm w steps s u) k₀ k r
-    → Sweeps lm rm n w steps (Matched lm rm w steps s t) k k′ q
-    → Sweeps lm rm n w steps (Row-matched lm rm w steps s t) k₀ k′ (r + q)
-columns-more {lm} {rm} {n} {w} {steps} {k₀} {k} s t u r q hs hu unset S visited X d R =
-    sweep-both r q (S X d R) visited (λ Q p m j a b. ⊎-elim (λ l. between Q m j a l) (λ l. p j l b) (less j u))
+-- a bit that is 0, and one that is not
+pub bit-unset : (byte t : ℕ) → byte / 2 ^ (7 - t % 8) % 2 ≡ 0 → bit-in byte t ≡ false
+bit-unset byte t e = rw e
+
+pub bit-set : (byte t : ℕ) → byte / 2 ^ (7 - t % 8) % 2 ≢ 0 → bit-in byte t ≡ true
+bit-set byte t e = eq-eqb (byte / 2 ^ (7 - t % 8) % 2) 1 (one (byte / 2 ^ (7 - t % 8)) e)
   where
-    between : Raster n w X d k → Matched lm rm w steps s t X → (j : ℕ) → t ≤ j → j < u → Matched lm rm w steps s j X
-    between Q m j a l = elim (ℕ-discrete j t) [
+    one : (x : ℕ) → x % 2 ≢ 0 → x % 2 ≡ 1
+    one x z = ⊎-elim (λ l. absurd (z (omega arith))) (λ l. omega arith) (less (x % 2) 1)
+
+-- bit t of row s stands in the row's byte t / 8
+pub byte-bit : (w : ℕ) (k : List ℕ) (s t j : ℕ) → t < w → t / 8 ≡ j
+    → set-at w k s t ≡ bit-in (getD k (s * bytes w + j) 0) t
+unfolding bit-at
+byte-bit w k s t j h e = let l : j < bytes w = omega arith in rw (e, part-at (bytes w) k s j l)
+
+-- a byte that is 0 has no pair
+pub byte-unset : {lm rm : List ℕ} {n w steps : ℕ} (s j : ℕ) (k : List ℕ) → s < n → getD k (s * bytes w + j) 0 ≡ 0
+    → Sweeps lm rm n w steps (Columns-matched lm rm w steps s (8 * j) (8 * j + 8)) k k 0
+byte-unset {w = w} s j k hs z X d R = sweep-none R (λ i a b l x. absurd (subst T (sym (raster-bit R s i hs l)
+    ∙ byte-bit w k s i j l (omega arith) ∙ bit-unset (getD k (s * bytes w + j) 0) i (rw (z, zero-div))) x))
+
+-- a pair taken out: those before it in its row stay
+pub without-keeps : {n w : ℕ} {X : List Bool} {d k : List ℕ} → Raster n w X d k → (s t : ℕ) → s < n → t < w
+    → set-at w k s t ≡ true → Kept-before w s t k (without w k s t)
+without-keeps {w = w} {X} R s t hs ht e j l =
+    raster-bit (raster-without R s t hs ht (sym (raster-bit R s t hs ht) ∙ e)) s j hs (omega arith)
+    ∙ getD-set-other X (s * w + t) (s * w + j) false false (λ q. omega arith)
+    ∙ sym (raster-bit R s j hs (omega arith))
+
+-- a column more, a byte more, a row more
+pub column-more : {lm rm : List ℕ} {n w steps : ℕ} {k₀ k k′ : List ℕ} (s t u r q : ℕ) → 0 < t
+    → Sweeps lm rm n w steps (Columns-matched lm rm w steps s t u) k₀ k r
+    → Sweeps lm rm n w steps (Matched lm rm w steps s (t - 1)) k k′ q
+    → Sweeps lm rm n w steps (Columns-matched lm rm w steps s (t - 1) u) k₀ k′ (r + q)
+column-more {lm} {rm} {n} {w} {steps} s t u r q h S visited X d R =
+    sweep-both r q (S X d R) visited (λ Q p m j a b l. elim (ℕ-discrete j (t - 1)) [
       | yes e ↦ subst (λ (i : ℕ). Matched lm rm w steps s i X) (sym e) m
-      | no e ↦ λ x. absurd (subst T (sym (raster-bit Q s j hs (omega arith)) ∙ unset j (above e) l) x)
-    ]
-      where
-        above : j ≢ t → t < j
-        above e = ⊎-elim (λ l. l) (λ l. absurd (e (omega arith))) (less t j)
+      | no e ↦ p j (above j a e) b l
+    ])
+  where
+    above : (j : ℕ) → t - 1 ≤ j → j ≢ t - 1 → t ≤ j
+    above j a e = ⊎-elim (λ l. absurd (e (omega arith))) (λ l. l) (less j t)
+
+pub byte-more : {lm rm : List ℕ} {n w steps : ℕ} {k₀ k k′ : List ℕ} (s j r q : ℕ) → 0 < j
+    → Sweeps lm rm n w steps (Row-matched lm rm w steps s (8 * j)) k₀ k r
+    → Sweeps lm rm n w steps (Columns-matched lm rm w steps s (8 * (j - 1)) (8 * (j - 1) + 8)) k k′ q
+    → Sweeps lm rm n w steps (Row-matched lm rm w steps s (8 * (j - 1))) k₀ k′ (r + q)
+byte-more s j r q h S swept X d R = sweep-both r q (S X d R) swept
+    (λ Q p m i a l. ⊎-elim (λ b. m i a (omega arith) l) (λ b. p i b l) (less i (8 * j)))
 
 pub rows-more : (lm rm : List ℕ) (n w steps s : ℕ) (X : List Bool) → 0 < s → Rows-matched lm rm n w steps s X
     → Row-matched lm rm w steps (s - 1) 0 X → Rows-matched lm rm n w steps (s - 1) X

@@ -1,12 +1,26 @@
-ghost use Prim.Native.Nat.{_+_, _-_, _*_, _/_, _≤_, _<_};
+ghost use mathlib.Core.Path.{_≡_};
+ghost use Prim.Native.Nat.{ℕ, _+_, _-_, _*_, _/_, _≤_, _<_};
 ghost use lib.ListN.{length, set};
 ghost use Rattle.clocks_bits.specs.Packed.{bytes};
+ghost use Rattle.tables_rows.specs.Raster.{set-at};
 ghost use Rattle.tables_rows.specs.Given.{Slices};
-ghost use Rattle.tables_widest.specs.Sweep.{Sweepable, Sweeps, Matched, Row-matched, Counted, Settled};
+ghost use Rattle.tables_widest.specs.Sweep.{Sweepable, Sweeps, bit-in, Kept-before, Matched, Columns-matched, Row-matched, Counted, Settled};
 ghost use Rattle.tables_widest.specs.Whole.{Widest-answers};
 
-// Takes the pair (s, t) out if it is set and breaks a rule, and says how many that were.
+// The smaller of two numbers.
+fn least(a: usize, b: usize) -> usize
+    ensures { λ r. ⌜ (r ≤ a) × ((r ≤ b) × ((i : ℕ) → i < a → i < b → i < r)) ⌝ }
+{
+    if a < b {
+        return a;
+    }
+    b
+}
+
+// Takes the pair (s, t) out if it is set and breaks a rule, and says how many that were. `byte` is the byte of the pair
+// as it was before its later pairs were visited: bit t of it is still what the raster says.
 fn visit(
+    byte: u8,
     raster: &mut [u8],
     lm: &[u16],
     rm: &[u16],
@@ -16,11 +30,13 @@ fn visit(
     s: usize,
     t: usize,
 ) -> usize
-    requires { ⌜ Sweepable n w steps (now lm) (now rm) (now raster) × ((s < n) × (t < w)) ⌝ }
+    requires { ⌜ Sweepable n w steps (now lm) (now rm) (now raster) × ((s < n) × ((t < w)
+        × (set-at w (now raster) s t ≡ bit-in byte t))) ⌝ }
     ensures { λ r. ⌜ Sweeps (now (lm .entry)) (now (rm .entry)) n w steps
-        (Matched (now (lm .entry)) (now (rm .entry)) w steps s t) (now (raster .entry)) (now (raster .exit)) r ⌝ }
+        (Matched (now (lm .entry)) (now (rm .entry)) w steps s t) (now (raster .entry)) (now (raster .exit)) r
+        × Kept-before w s t (now (raster .entry)) (now (raster .exit)) ⌝ }
 {
-    if !tables_rows::is_set(raster, n, w, s, t) {
+    if (byte >> (7 - t % 8)) % 2 == 0 {
         return 0;
     }
     if steps <= tables_check::first_bad(raster, lm, rm, n, w, steps, s, t) {
@@ -30,7 +46,38 @@ fn visit(
     1
 }
 
-// The pairs of row s, from the last to the first; bytes of the raster that are 0 are skipped.
+// The pairs of byte j of row s, from the last to the first; none where the byte is 0. The byte is read once, so that
+// which pair is next does not wait for the raster.
+fn sweep_byte(
+    raster: &mut [u8],
+    lm: &[u16],
+    rm: &[u16],
+    n: usize,
+    w: usize,
+    steps: usize,
+    s: usize,
+    j: usize,
+) -> usize
+    requires { ⌜ Sweepable n w steps (now lm) (now rm) (now raster) × ((s < n) × (j < bytes w)) ⌝ }
+    ensures { λ r. ⌜ Sweeps (now (lm .entry)) (now (rm .entry)) n w steps
+        (Columns-matched (now (lm .entry)) (now (rm .entry)) w steps s (8 * j) (8 * j + 8)) (now (raster .entry))
+        (now (raster .exit)) r ⌝ }
+{
+    let byte = raster[s * ((w + 7) / 8) + j];
+    if byte == 0 {
+        return 0;
+    }
+    let low = 8 * j;
+    let mut t = least(w, low + 8);
+    let mut r: usize = 0;
+    while low < t {
+        t -= 1;
+        r += visit(byte, raster, lm, rm, n, w, steps, s, t);
+    }
+    r
+}
+
+// The pairs of row s, byte by byte, from the last to the first.
 fn sweep_row(
     raster: &mut [u8],
     lm: &[u16],
@@ -45,10 +92,10 @@ fn sweep_row(
         (Row-matched (now (lm .entry)) (now (rm .entry)) w steps s 0) (now (raster .entry)) (now (raster .exit)) r ⌝ }
 {
     let mut r: usize = 0;
-    let mut t = w;
-    while 0 < t {
-        t = tables_rows::column_below(raster, n, w, s, t);
-        r += visit(raster, lm, rm, n, w, steps, s, t);
+    let mut j = (w + 7) / 8;
+    while 0 < j {
+        j -= 1;
+        r += sweep_byte(raster, lm, rm, n, w, steps, s, j);
     }
     r
 }
