@@ -98,12 +98,12 @@ unfolding any
 any-same zero p q e = refl
 any-same (suc n) p q e = rw (e n (omega arith), any-same n p q (λ i h. e i (omega arith)))
 
-stays-same : (p q : ℕ → Bool) (o : Option ℕ) → ((t : ℕ) → o ≡ some t → p t ≡ q t) → stays p o ≡ stays q o
+pub stays-same : (p q : ℕ → Bool) (o : Option ℕ) → ((t : ℕ) → o ≡ some t → p t ≡ q t) → stays p o ≡ stays q o
 unfolding stays
 stays-same p q none e = refl
 stays-same p q (some t) e = e t refl
 
-lands-same : (p q : ℕ → Bool) (o : Option ℕ) → ((t : ℕ) → o ≡ some t → p t ≡ q t) → lands p o ≡ lands q o
+pub lands-same : (p q : ℕ → Bool) (o : Option ℕ) → ((t : ℕ) → o ≡ some t → p t ≡ q t) → lands p o ≡ lands q o
 unfolding lands
 lands-same p q none e = refl
 lands-same p q (some t) e = e t refl

@@ -2,7 +2,6 @@
 use mathlib.Core.Path.{_≡_, refl, sym, subst, ap, _∙_}
 use mathlib.Core.Logic.{⊎-elim, _≢_}
 use mathlib.Core.Bool.{Bool, true, false, not}
-use mathlib.Core.Option.{Option, none, some}
 use mathlib.Core.List.{List, [], _∷_}
 use Prim.Native.Nat.{ℕ, _+_, _-_, _*_, _/_, _%_, _^_, _≤_, _<_}
 use native.Mathlib.Nat.{zero-div, mul-le-mul-left, mul-le-mul-right, div-add-mod', mod-lt, div-lt-iff-lt-mul}
@@ -24,6 +23,7 @@ use Rattle.clocks_bits.specs.Bits.{bit-at, less}
 use Rattle.clocks_bits.specs.Moves.{decode, decode-inside, Bounded, most-states}
 use Rattle.clocks_bits.specs.Given.{Given}
 use Rattle.clocks_bits.specs.Packed.{bytes, ones-clear}
+use Rattle.clocks_safe.specs.Test.{stays-same, lands-same}
 use Rattle.clocks_safe.specs.Settle.{length-table, length-stage, same-table}
 use Rattle.tables_rows.specs.Raster.{Raster, Table, set-at, without}
 use Rattle.tables_rows.specs.RasterLaws.{part-at, raster-bit, raster-without}
@@ -142,16 +142,6 @@ module _ {A : Signature} {L R : Finite-system A} {lm rm : List ℕ} {n w steps :
           (decode (getD lm (s * steps + c) 0)) u (all s t m l x c hc) (sym (G .left .move s c m hc) ∙ e) in
           let (v, f, z) = lands-elim (λ v. at X (u * w + v)) (decode (getD rm (t * steps + c) 0)) y in
           (v, G .right .move t c l hc ∙ f, subst T (sym (cell-is u v)) z)
-
-stays-same : (p q : ℕ → Bool) (o : Option ℕ) → ((t : ℕ) → o ≡ some t → p t ≡ q t) → stays p o ≡ stays q o
-unfolding stays
-stays-same p q none e = refl
-stays-same p q (some t) e = e t refl
-
-lands-same : (p q : ℕ → Bool) (o : Option ℕ) → ((t : ℕ) → o ≡ some t → p t ≡ q t) → lands p o ≡ lands q o
-unfolding lands
-lands-same p q none e = refl
-lands-same p q (some t) e = e t refl
 
 -- a visit of the pair (s, t) of the raster k
 module _ {lm rm : List ℕ} {n w steps : ℕ} (left : Bounded n steps lm) (right : Bounded w steps rm) (s t : ℕ)
