@@ -1,2 +1,3 @@
 pub mod Faults
 pub mod Reading
+pub mod Parts

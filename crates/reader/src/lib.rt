@@ -2,17 +2,25 @@
 ghost use mathlib.Core.Path.{_≡_};
 ghost use mathlib.Core.Bool.{Bool, true, false};
 ghost use Prim.Native.Nat.{ℕ, _+_, _-_, _≤_, _<_};
-ghost use Rattle.reader.specs.Reading.{start, list-part, channel-part, process-part, location-part, init-part};
-ghost use Rattle.reader.specs.Reading.{end-part, read-whole, refused, answer, read-text};
+ghost use Rattle.reader_lists.specs.Turns.{item, state-of};
+ghost use Rattle.reader_lists.specs.Heads.{no-edges, before-edges, with-rest, Reads-head, Reads-edges};
+ghost use Rattle.reader.specs.Reading.{start, channel-part, process-part, clock-part, location-part, init-part};
+ghost use Rattle.reader.specs.Reading.{edge-part, end-part, read-whole, refused, answer, read-text};
+ghost use Rattle.reader.specs.Parts.{list-past, started, read-head, Reads-any};
 ghost use Rattle.reader.specs.Faults.{refusal-of};
-use reader_lists::Item;
-use reader_lists::State;
+use reader_lists::EdgesRead;
+use reader_lists::HeadRead;
+use reader_lists::Named;
+use reader_parts::Declaration;
 use reader_parts::FIRST_LOCATION;
 use reader_parts::Fault;
 use reader_parts::NAME_SLOTS;
 use reader_parts::PROCESS_LIMIT;
 use reader_parts::PROCESS_SLOT;
 use reader_parts::Status;
+use reader_parts::Use;
+use reader_record::CHANNEL_LIMIT;
+use reader_record::Channel;
 use reader_record::LARGEST_TEXT;
 use reader_record::LOCATION_LIMIT;
 use reader_record::Name;
@@ -32,125 +40,141 @@ pub struct Parsed {
 }
 
 // Nothing is read and nothing is declared.
-fn start() -> State
-    ensures { λ r. ⌜ r ≡ start ⌝ }
+fn start() -> HeadRead
+    ensures { λ r. ⌜ with-rest r 0 no-edges 0 ≡ start ⌝ }
 {
     let status = Status::At(0);
     let name = Name { place: 0, len: 0 };
     let names = [name; NAME_SLOTS];
-    let text = reader_lists::no_text();
-    State {
+    let head = reader_lists::no_head();
+    HeadRead {
         status: status,
         names: names,
-        text: text,
+        head: head,
     }
 }
 
-// An optional list: the word that opens it, then its items and `;`.
-fn list_part(s: &[u8], r: State, word: usize, k: Item) -> State
-    ensures { λ q. ⌜ q ≡ list-part word k (now (s .entry)) r ⌝ }
+// An optional list. `word` is the first of the words that open it, and `opened` is how far the reader has come past
+// them, which counts only where the list is there.
+fn list_part(s: &[u8], r: HeadRead, word: usize, opened: Status, k: Named) -> HeadRead
+    ensures { λ q. ⌜ Reads-head (list-past word opened (item k) (now (s .entry))) r q ⌝ }
 {
     let st = r.status;
     if reader_parts::ahead(s, st, word) {
-        let a = reader_lists::next(s, r, word);
-        return reader_lists::items(s, a, k);
+        return reader_lists::named_items(s, opened, r, k);
     }
     r
 }
 
 // Optional `broadcast chan` names `;`.
-fn channel_part(s: &[u8], r: State) -> State
-    ensures { λ q. ⌜ q ≡ channel-part (now (s .entry)) r ⌝ }
+fn channel_part(s: &[u8], r: HeadRead) -> HeadRead
+    ensures { λ q. ⌜ Reads-head (channel-part (now (s .entry))) r q ⌝ }
 {
     let st = r.status;
-    if reader_parts::ahead(s, st, reader_tokens::BROADCAST) {
-        let a = reader_lists::next(s, r, reader_tokens::BROADCAST);
-        let b = reader_lists::next(s, a, reader_tokens::CHAN);
-        return reader_lists::items(s, b, Item::Channel);
-    }
-    r
+    let a = reader_parts::take(s, st, reader_tokens::BROADCAST);
+    let b = reader_parts::take(s, a, reader_tokens::CHAN);
+    list_part(s, r, reader_tokens::BROADCAST, b, Named::Channel)
 }
 
 // `process` name `( ) {`.
-fn process_part(s: &[u8], r: State) -> State
-    ensures { λ q. ⌜ q ≡ process-part (now (s .entry)) r ⌝ }
+fn process_part(s: &[u8], st: Status, names: [Name; NAME_SLOTS]) -> Declaration
+    ensures { λ d. ⌜ Reads-any (process-part (now (s .entry))) (state-of st names) (state-of (d .status) (d .names)) ⌝ }
 {
-    let a = reader_lists::next(s, r, reader_tokens::PROCESS);
-    let st = a.status;
-    let before = a.names;
-    let d = reader_parts::declare(s, st, before, PROCESS_SLOT, 0, PROCESS_LIMIT);
-    let status = d.status;
-    let names = d.names;
-    let text = a.text;
-    let b = State {
-        status: status,
-        names: names,
-        text: text,
-    };
-    let c = reader_lists::next(s, b, reader_tokens::LEFT);
-    let e = reader_lists::next(s, c, reader_tokens::RIGHT);
-    reader_lists::next(s, e, reader_tokens::OPEN)
+    let a = reader_parts::take(s, st, reader_tokens::PROCESS);
+    let d = reader_parts::declare(s, a, names, PROCESS_SLOT, 0, PROCESS_LIMIT);
+    let b = d.status;
+    let c = reader_parts::take(s, b, reader_tokens::LEFT);
+    let e = reader_parts::take(s, c, reader_tokens::RIGHT);
+    let f = reader_parts::take(s, e, reader_tokens::OPEN);
+    let all = d.names;
+    let name = d.name;
+    Declaration {
+        status: f,
+        names: all,
+        name: name,
+    }
+}
+
+// Optional `clock` names `;`.
+fn clock_part(s: &[u8], r: HeadRead) -> HeadRead
+    ensures { λ q. ⌜ Reads-head (clock-part (now (s .entry))) r q ⌝ }
+{
+    let st = r.status;
+    let a = reader_parts::take(s, st, reader_tokens::CLOCK);
+    list_part(s, r, reader_tokens::CLOCK, a, Named::Clock)
 }
 
 // `state` locations `;`.
-fn location_part(s: &[u8], r: State) -> State
-    ensures { λ q. ⌜ q ≡ location-part (now (s .entry)) r ⌝ }
+fn location_part(s: &[u8], r: HeadRead) -> HeadRead
+    ensures { λ q. ⌜ Reads-head (location-part (now (s .entry))) r q ⌝ }
 {
-    let a = reader_lists::next(s, r, reader_tokens::STATE);
-    reader_lists::items(s, a, Item::Location)
+    let st = r.status;
+    let a = reader_parts::take(s, st, reader_tokens::STATE);
+    reader_lists::named_items(s, a, r, Named::Location)
 }
 
-// `init` name `;`.
-fn init_part(s: &[u8], r: State) -> State
-    ensures { λ q. ⌜ q ≡ init-part (now (s .entry)) r ⌝ }
-{
-    let a = reader_lists::next(s, r, reader_tokens::INIT);
-    let st = a.status;
-    let names = a.names;
-    let u = reader_parts::use_name(s, st, names, FIRST_LOCATION, LOCATION_LIMIT, false);
-    let before = a.text;
-    let text = reader_lists::with_init(before, u.number);
-    let status = u.status;
-    let b = State {
-        status: status,
-        names: names,
-        text: text,
-    };
-    reader_lists::next(s, b, reader_tokens::SEMICOLON)
-}
-
-// `} system` name `;` and the end of the text.
-fn end_part(s: &[u8], r: State) -> State
-    ensures { λ q. ⌜ q ≡ end-part (now (s .entry)) r ⌝ }
-{
-    let a = reader_lists::next(s, r, reader_tokens::CLOSE);
-    let b = reader_lists::next(s, a, reader_tokens::SYSTEM);
-    let st = b.status;
-    let names = b.names;
-    let u = reader_parts::use_name(s, st, names, PROCESS_SLOT, PROCESS_LIMIT, false);
-    let status = u.status;
-    let text = b.text;
-    let c = State {
-        status: status,
-        names: names,
-        text: text,
-    };
-    let d = reader_lists::next(s, c, reader_tokens::SEMICOLON);
-    reader_lists::next(s, d, reader_tokens::END)
-}
-
-// The parts in their order.
-fn read_whole(s: &[u8]) -> State
-    ensures { λ q. ⌜ q ≡ read-whole (now (s .entry)) ⌝ }
+// The parts before `init`.
+fn read_head(s: &[u8]) -> HeadRead
+    ensures { λ r. ⌜ with-rest r 0 no-edges 0 ≡ read-head (now (s .entry)) ⌝ }
 {
     let a = start();
     let b = channel_part(s, a);
-    let c = process_part(s, b);
-    let d = list_part(s, c, reader_tokens::CLOCK, Item::Clock);
-    let e = location_part(s, d);
-    let f = init_part(s, e);
-    let g = list_part(s, f, reader_tokens::TRANS, Item::Edge);
-    end_part(s, g)
+    let st = b.status;
+    let before = b.names;
+    let d = process_part(s, st, before);
+    let status = d.status;
+    let names = d.names;
+    let head = b.head;
+    let c = HeadRead {
+        status: status,
+        names: names,
+        head: head,
+    };
+    let e = clock_part(s, c);
+    location_part(s, e)
+}
+
+// `init` name `;`.
+fn init_part(s: &[u8], st: Status, names: [Name; NAME_SLOTS]) -> Use
+    ensures { λ u. ⌜ Reads-any (init-part (now (s .entry))) (state-of st names) (started names u) ⌝ }
+{
+    let a = reader_parts::take(s, st, reader_tokens::INIT);
+    let u = reader_parts::use_name(s, a, names, FIRST_LOCATION, LOCATION_LIMIT, false);
+    let b = u.status;
+    let c = reader_parts::take(s, b, reader_tokens::SEMICOLON);
+    Use {
+        status: c,
+        number: u.number,
+        place: u.place,
+    }
+}
+
+// Optional `trans` edges `;`.
+fn edge_part(
+    s: &[u8],
+    st: Status,
+    names: [Name; NAME_SLOTS],
+    channels: [Channel; CHANNEL_LIMIT],
+) -> EdgesRead
+    ensures { λ r. ⌜ Reads-edges (edge-part (now (s .entry))) names (before-edges st channels) r ⌝ }
+{
+    if reader_parts::ahead(s, st, reader_tokens::TRANS) {
+        let a = reader_parts::take(s, st, reader_tokens::TRANS);
+        return reader_lists::edges(s, a, names, channels);
+    }
+    reader_lists::no_edges(st, channels)
+}
+
+// `} system` name `;` and the end of the text.
+fn end_part(s: &[u8], st: Status, names: [Name; NAME_SLOTS]) -> Status
+    ensures { λ r. ⌜ Reads-any (end-part (now (s .entry))) (state-of st names) (state-of r names) ⌝ }
+{
+    let a = reader_parts::take(s, st, reader_tokens::CLOSE);
+    let b = reader_parts::take(s, a, reader_tokens::SYSTEM);
+    let u = reader_parts::use_name(s, b, names, PROCESS_SLOT, PROCESS_LIMIT, false);
+    let c = u.status;
+    let d = reader_parts::take(s, c, reader_tokens::SEMICOLON);
+    reader_parts::take(s, d, reader_tokens::END)
 }
 
 // The refusal with a code of 2 to 8 at a byte place of the only text.
@@ -191,15 +215,40 @@ fn refused(f: Fault) -> Parsed
     Parsed { answer, text }
 }
 
-// The answer where the reader has come to st with the record t.
-fn answer_of(st: Status, t: Text) -> Parsed
-    ensures { λ r. ⌜ r ≡ answer st t ⌝ }
+// The parts in their order, and the record put together where all of them fit.
+fn read_whole(s: &[u8]) -> Parsed
+    ensures { λ r. ⌜ r ≡ answer (read-whole (now (s .entry)) .status) (read-whole (now (s .entry)) .text) ⌝ }
 {
-    match st {
+    let r = read_head(s);
+    let st = r.status;
+    let names = r.names;
+    let i = init_part(s, st, names);
+    let h = r.head;
+    let given = h.channels;
+    let on = i.status;
+    let e = edge_part(s, on, names, given);
+    let came = e.status;
+    let end = end_part(s, came, names);
+    let channels = e.channels;
+    let clocks = h.clocks;
+    let locations = h.locations;
+    let edges = e.edges;
+    match end {
         Status::Refused(f) => refused(f),
         Status::At(_) => {
+            let text = Text {
+                channels: channels,
+                channel_count: h.channel_count,
+                clocks: clocks,
+                clock_count: h.clock_count,
+                locations: locations,
+                location_count: h.location_count,
+                init: i.number,
+                edges: edges,
+                edge_count: e.count,
+            };
             let answer = Answer::Accepted;
-            Parsed { answer, text: t }
+            Parsed { answer, text }
         }
     }
 }
@@ -212,8 +261,5 @@ pub fn parse(text: &[u8]) -> Parsed
         let f = Fault::TooLong;
         return refused(f);
     }
-    let r = read_whole(text);
-    let st = r.status;
-    let t = r.text;
-    answer_of(st, t)
+    read_whole(text)
 }

@@ -4,9 +4,10 @@ ghost use mathlib.Core.Bool.{Bool, true, false};
 ghost use Prim.Native.Nat.{ℕ, _+_, _-_, _≤_, _<_};
 ghost use lib.ListN.{length, getD, set};
 ghost use Rattle.reader_record.specs.Limits.{channel-limit, clock-limit, location-limit, edge-limit};
-ghost use Rattle.reader_lists.specs.State.{no-edge, no-text, next, direction-of, marked, with-init};
+ghost use Rattle.reader_lists.specs.State.{no-edge, no-text, direction-of, marked};
 ghost use Rattle.reader_lists.specs.Lists.{limit, items};
-ghost use Rattle.reader_lists.specs.Turns.{item, first-slot, count, unused, state-of, after-item};
+ghost use Rattle.reader_lists.specs.Turns.{item, first-slot, count, unused, after-item};
+ghost use Rattle.reader_lists.specs.Heads.{whole, no-edges, head-read, before-edges, Reads-head, Reads-edges};
 use reader_parts::FIRST_CHANNEL;
 use reader_parts::FIRST_CLOCK;
 use reader_parts::FIRST_LOCATION;
@@ -25,7 +26,7 @@ use reader_record::Location;
 use reader_record::Name;
 use reader_record::Text;
 
-// The kinds of item that a list of the text has.
+// The kinds of item that a list of the text has. Only the definitions speak of it.
 pub enum Item {
     Channel,
     Clock,
@@ -34,7 +35,7 @@ pub enum Item {
 }
 
 // The kinds of item that declare a name.
-enum Named {
+pub enum Named {
     Channel,
     Clock,
     Location,
@@ -47,10 +48,36 @@ struct Turn {
 }
 
 // What the reader has read: how far it has come, the declared names by their slots, and the record so far.
+// Only the definitions speak of it: the code has the record's head and its edges apart, so that no call copies both.
 pub struct State {
     pub status: Status,
     pub names: [Name; NAME_SLOTS],
     pub text: Text,
+}
+
+// The record's head: what stands before its starting location and its edges.
+pub struct Head {
+    pub channels: [Channel; CHANNEL_LIMIT],
+    pub channel_count: usize,
+    pub clocks: [Name; CLOCK_LIMIT],
+    pub clock_count: usize,
+    pub locations: [Location; LOCATION_LIMIT],
+    pub location_count: usize,
+}
+
+// How far the reader has come in the head, the declared names by their slots, and the head so far.
+pub struct HeadRead {
+    pub status: Status,
+    pub names: [Name; NAME_SLOTS],
+    pub head: Head,
+}
+
+// How far the reader has come in the edges, the channels with the directions that the edges say, and the edges so far.
+pub struct EdgesRead {
+    pub status: Status,
+    pub channels: [Channel; CHANNEL_LIMIT],
+    pub edges: [Edge; EDGE_LIMIT],
+    pub count: usize,
 }
 
 fn no_edge() -> Edge
@@ -68,9 +95,9 @@ fn no_edge() -> Edge
     }
 }
 
-// A record of which nothing is read.
-pub fn no_text() -> Text
-    ensures { λ r. ⌜ r ≡ no-text ⌝ }
+// The head of a record of which nothing is read.
+pub fn no_head() -> Head
+    ensures { λ r. ⌜ whole r 0 no-edges 0 ≡ no-text ⌝ }
 {
     let name = Name { place: 0, len: 0 };
     let direction = Direction::Unused;
@@ -86,33 +113,50 @@ pub fn no_text() -> Text
         invariant: invariant,
     };
     let locations = [location; LOCATION_LIMIT];
-    let edge = no_edge();
-    let edges = [edge; EDGE_LIMIT];
-    Text {
+    Head {
         channels: channels,
         channel_count: 0,
         clocks: clocks,
         clock_count: 0,
         locations: locations,
         location_count: 0,
+    }
+}
+
+// A record of which nothing is read.
+pub fn no_text() -> Text
+    ensures { λ r. ⌜ r ≡ no-text ⌝ }
+{
+    let h = no_head();
+    let channels = h.channels;
+    let clocks = h.clocks;
+    let locations = h.locations;
+    let edge = no_edge();
+    let edges = [edge; EDGE_LIMIT];
+    Text {
+        channels: channels,
+        channel_count: h.channel_count,
+        clocks: clocks,
+        clock_count: h.clock_count,
+        locations: locations,
+        location_count: h.location_count,
         init: 0,
         edges: edges,
         edge_count: 0,
     }
 }
 
-// The next token, which has to be of the kind k.
-pub fn next(s: &[u8], r: State, k: usize) -> State
-    ensures { λ q. ⌜ q ≡ next (now (s .entry)) r k ⌝ }
+// No edges, where the reader has come to st and the channels are given.
+pub fn no_edges(st: Status, channels: [Channel; CHANNEL_LIMIT]) -> EdgesRead
+    ensures { λ r. ⌜ r ≡ before-edges st channels ⌝ }
 {
-    let st = r.status;
-    let end = reader_parts::take(s, st, k);
-    let names = r.names;
-    let text = r.text;
-    State {
-        status: end,
-        names: names,
-        text: text,
+    let edge = no_edge();
+    let edges = [edge; EDGE_LIMIT];
+    EdgesRead {
+        status: st,
+        channels: channels,
+        edges: edges,
+        count: 0,
     }
 }
 
@@ -140,15 +184,6 @@ fn marked(channels: [Channel; CHANNEL_LIMIT], k: usize, input: bool) -> [Channel
     };
     all[k] = channel;
     all
-}
-
-// The location where the text starts.
-pub fn with_init(t: Text, i: usize) -> Text
-    ensures { λ r. ⌜ r ≡ with-init t i ⌝ }
-{
-    let mut u = t;
-    u.init = i;
-    u
 }
 
 // A channel that no edge names yet.
@@ -219,27 +254,28 @@ fn after_item(s: &[u8], st: Status, room: usize) -> Turn
     }
 }
 
-// What the reader has read, from its three parts.
-fn state_of(st: Status, names: [Name; NAME_SLOTS], text: Text) -> State
-    ensures { λ r. ⌜ r ≡ state-of st names text ⌝ }
+// What the reader has read in the head, from its three parts.
+fn head_read(st: Status, names: [Name; NAME_SLOTS], head: Head) -> HeadRead
+    ensures { λ r. ⌜ r ≡ head-read st names head ⌝ }
 {
-    State {
+    HeadRead {
         status: st,
         names: names,
-        text: text,
+        head: head,
     }
 }
 
-// The channels, clocks or locations, joined by commas, and `;`. The record is written in place.
-fn named_items(s: &[u8], r: State, k: Named) -> State
-    ensures { λ q. ⌜ q ≡ items (item k) (now (s .entry)) r ⌝ }
+// The channels, clocks or locations, joined by commas, and `;`, from `start` on, where the words before them are read:
+// the status in r is not used. The head is written in place.
+pub fn named_items(s: &[u8], start: Status, r: HeadRead, k: Named) -> HeadRead
+    ensures { λ q. ⌜ Reads-head (items (item k) (now (s .entry))) (head-read start (r .names) (r .head)) q ⌝ }
 {
-    let mut st = r.status;
+    let mut st = start;
     let mut names = r.names;
-    let mut text = r.text;
+    let mut head = r.head;
     let mut room = limit(k);
     loop {
-        let n = count(k, text.channel_count, text.clock_count, text.location_count);
+        let n = count(k, head.channel_count, head.clock_count, head.location_count);
         let d = reader_parts::declare(s, st, names, first_slot(k), n, limit(k));
         st = d.status;
         if n < limit(k) {
@@ -248,70 +284,68 @@ fn named_items(s: &[u8], r: State, k: Named) -> State
             match k {
                 Named::Channel => {
                     let channel = unused(name);
-                    text.channels[n] = channel;
-                    text.channel_count = n + 1;
+                    head.channels[n] = channel;
+                    head.channel_count = n + 1;
                 }
                 Named::Clock => {
-                    text.clocks[n] = name;
-                    text.clock_count = n + 1;
+                    head.clocks[n] = name;
+                    head.clock_count = n + 1;
                 }
                 Named::Location => {
                     let i = reader_constraints::invariant(s, st, names);
                     st = i.status;
                     let invariant = i.constraint;
                     let location = Location { name, invariant };
-                    text.locations[n] = location;
-                    text.location_count = n + 1;
+                    head.locations[n] = location;
+                    head.location_count = n + 1;
                 }
             }
         }
         let t = after_item(s, st, room);
         st = t.status;
         if !t.more {
-            return state_of(st, names, text);
+            return head_read(st, names, head);
         }
         room -= 1;
     }
 }
 
-// The edges, joined by commas, and `;`. The record is written in place.
-fn edges(s: &[u8], r: State) -> State
-    ensures { λ q. ⌜ q ≡ items Item.Edge (now (s .entry)) r ⌝ }
+// The edges, joined by commas, and `;`. The channels and the edges are written in place.
+pub fn edges(
+    s: &[u8],
+    start: Status,
+    names: [Name; NAME_SLOTS],
+    given: [Channel; CHANNEL_LIMIT],
+) -> EdgesRead
+    ensures { λ r. ⌜ Reads-edges (items Item.Edge (now (s .entry))) names (before-edges start given) r ⌝ }
 {
-    let names = r.names;
-    let mut st = r.status;
-    let mut text = r.text;
+    let mut st = start;
+    let mut channels = given;
+    let none = no_edge();
+    let mut edges = [none; EDGE_LIMIT];
+    let mut n: usize = 0;
     let mut room = EDGE_LIMIT;
     loop {
-        let n = text.edge_count;
-        let channels = text.channels;
         let full = EDGE_LIMIT <= n;
         let e = reader_edges::edge_next(s, st, names, channels, full);
         st = e.status;
         if !full {
             let edge = e.edge;
             let now = marked(channels, e.channel, e.input);
-            text.channels = now;
-            text.edges[n] = edge;
-            text.edge_count = n + 1;
+            channels = now;
+            edges[n] = edge;
+            n += 1;
         }
         let t = after_item(s, st, room);
         st = t.status;
         if !t.more {
-            return state_of(st, names, text);
+            return EdgesRead {
+                status: st,
+                channels,
+                edges,
+                count: n,
+            };
         }
         room -= 1;
-    }
-}
-
-// The items of one kind, joined by commas, and `;`.
-pub fn items(s: &[u8], r: State, k: Item) -> State
-    ensures { λ q. ⌜ q ≡ items k (now (s .entry)) r ⌝ }
-{
-    match k {
-        Item::Channel => named_items(s, r, Named::Channel),
-        Item::Clock => named_items(s, r, Named::Clock),
-        Item::Location => named_items(s, r, Named::Location),
-        Item::Edge => edges(s, r),
     }
 }

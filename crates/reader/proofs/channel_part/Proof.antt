@@ -1,38 +1,23 @@
--- `channel_part` is `channel-part`, by the contracts of its parts.
+-- `channel_part` is `channel-part`: the list past `broadcast chan`.
 use borrow.Author.Needs.{needs}
-use mathlib.Core.Path.{sym}
+use Rattle.reader_lists.specs.State.{next}
 use Rattle.reader.specs.Reading.{channel-part}
 use Rattle.reader.proofs.channel_part.Statement.{statement}
 use Rattle.reader.proofs.channel_part.Tie as tie
 
-ahead-requires : tie.Need-ahead-requires
-ahead-requires c κs = search needs
+take-requires : tie.Need-take-requires
+take-requires c κs = search needs
 
-next-requires : tie.Need-next-requires
-next-requires c κs = search needs
+take-requires-2 : tie.Need-take-requires-2
+take-requires-2 c κs = search needs
 
-next-requires-2 : tie.Need-next-requires-2
-next-requires-2 c κs = search needs
-
-items-requires : tie.Need-items-requires
-items-requires c κs = search needs
+list-part-requires : tie.Need-list-part-requires
+list-part-requires c κs = search needs
 
 returns : tie.Need-returns
-unfolding channel-part
-returns c = rw (
-  sym (c .before .before .before .before .ahead .ensures),
-  c .before .before .before .if1 .taken,
-  sym
-      (c .before .before .next .ensures),
-  sym (c .before .next2 .ensures),
-  c .items .ensures,
-)
-
-returns-2 : tie.Need-returns-2
-unfolding channel-part
-returns-2 c = rw (sym (c .before .ahead .ensures), c .if1 .left)
+unfolding channel-part next
+returns c init edges count =
+    rw (← c .before .before .take .ensures, ← c .before .take2 .ensures) (c .list-part .ensures init edges count)
 
 pub channel-part-spec : {M : Type 1} → statement M
-channel-part-spec =
-    tie.close
-    (tie.spec ahead-requires next-requires next-requires-2 items-requires returns returns-2)
+channel-part-spec = tie.close (tie.spec take-requires take-requires-2 list-part-requires returns)

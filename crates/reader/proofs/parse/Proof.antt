@@ -1,9 +1,8 @@
 -- `parse` is `read-text`: the length is judged first.
 use borrow.Author.Needs.{needs}
 use borrow.Author.Tests.{lt-ltb, le-ltb}
-use mathlib.Core.Path.{sym}
 use Rattle.reader_record.specs.Limits.{largest-text}
-use Rattle.reader.specs.Reading.{read-whole, refused, read-text}
+use Rattle.reader.specs.Reading.{read-text}
 use Rattle.reader.proofs.parse.Statement.{statement}
 use Rattle.reader.proofs.parse.Tie as tie
 
@@ -17,18 +16,9 @@ returns c = rw (lt-ltb largest-text _ (c .before .if1 .taken), c .refused .ensur
 read-whole-requires : tie.Need-read-whole-requires
 read-whole-requires c κs = search needs
 
-answer-of-requires : tie.Need-answer-of-requires
-answer-of-requires c κs = search needs
-
 returns-2 : tie.Need-returns-2
 unfolding read-text
-returns-2 c = rw (
-  le-ltb largest-text _ (c .before .before .before .if1 .left),
-  sym
-      (c .before .before .read-whole .ensures),
-  c .answer-of .ensures,
-)
+returns-2 c = rw (le-ltb largest-text _ (c .before .if1 .left), c .read-whole .ensures)
 
 pub parse-spec : {M : Type 1} → statement M
-parse-spec =
-    tie.close (tie.spec refused-requires returns read-whole-requires answer-of-requires returns-2)
+parse-spec = tie.close (tie.spec refused-requires returns read-whole-requires returns-2)

@@ -1,62 +1,82 @@
--- `read_whole` is `read-whole`, by the contracts of its parts.
+-- `read_whole` is the answer of `read-whole`: the head, the starting location and the edges are the record.
 use borrow.Author.Needs.{needs}
-use mathlib.Core.Path.{sym}
-use Rattle.reader.specs.Reading.{read-whole}
+use mathlib.Core.Path.{_≡_}
+use Rattle.reader_lists.specs.State.{with-init}
+use Rattle.reader_lists.specs.Turns.{state-of}
+use Rattle.reader_lists.specs.Heads.{whole, with-channels, no-edges}
+use Rattle.reader.specs.Reading.{read-whole, answer}
 use Rattle.reader.proofs.read_whole.Statement.{statement}
 use Rattle.reader.proofs.read_whole.Tie as tie
 
-start-requires : tie.Need-start-requires
-start-requires c κs = search needs
-
-channel-part-requires : tie.Need-channel-part-requires
-channel-part-requires c κs = search needs
-
-process-part-requires : tie.Need-process-part-requires
-process-part-requires c κs = search needs
-
-list-part-requires : tie.Need-list-part-requires
-list-part-requires c κs = search needs
-
-location-part-requires : tie.Need-location-part-requires
-location-part-requires c κs = search needs
+read-head-requires : tie.Need-read-head-requires
+read-head-requires c κs = search needs
 
 init-part-requires : tie.Need-init-part-requires
 init-part-requires c κs = search needs
 
-list-part-requires-2 : tie.Need-list-part-requires-2
-list-part-requires-2 c κs = search needs
+edge-part-requires : tie.Need-edge-part-requires
+edge-part-requires c κs = search needs
 
 end-part-requires : tie.Need-end-part-requires
 end-part-requires c κs = search needs
 
+enum-known-end : tie.Need-enum-known-end
+enum-known-end c = search needs
+
+refused-requires : tie.Need-refused-requires
+refused-requires c κs = search needs
+
+enum-told : tie.Need-enum-told
+enum-told c = search needs
+
+-- the parts in their order, put together
+all-parts :
+    (c : tie.After-end-part) →
+    let e = c .before .edge-part .result in
+    let i = c .before .before .before .before .init-part .result in
+    let r = c .before .before .before .before .before .before .read-head .result in
+    let s = c .before .before .before .before .before .before .before .before .args .s .now in
+    read-whole s
+    ≡ state-of (c .end-part .result) (r .names)
+    (whole (with-channels (r .head) (e .channels)) (i .number) (e .edges) (e .count))
+unfolding read-whole with-init
+all-parts c =
+    let e = c .before .edge-part .result in
+    let start = c .before .before .before .before .init-part in
+    let head = c .before .before .before .before .before .before .read-head in
+    let h = head .result .head in
+    rw (
+      ← head .ensures,
+      start .ensures (whole h 0 no-edges 0),
+      c .before .edge-part .ensures h (start .result .number),
+      c .end-part .ensures (whole (with-channels h (e .channels)) (start .result .number) (e .edges) (e .count)),
+    )
+
 returns : tie.Need-returns
-unfolding read-whole
+unfolding answer
 returns c = rw (
-  sym (c .before .before .before .before .before .before .before .start .ensures),
-  sym
-      (c .before .before .before .before .before .before .channel-part .ensures),
-  sym
-      (c .before .before .before .before .before .process-part .ensures),
-  sym
-      (c .before .before .before .before .list-part .ensures),
-  sym
-      (c .before .before .before .location-part .ensures),
-  sym (c .before .before .init-part .ensures),
-  sym
-      (c .before .list-part2 .ensures),
-  c .end-part .ensures,
+  all-parts (c .before .before .before .before .before .before .before .before),
+  c .before .before .end .given .1,
+  c .refused .ensures,
+)
+
+returns-2 : tie.Need-returns-2
+unfolding answer
+returns-2 c = rw (
+  all-parts (c .before .before .before .before .before .before),
+  c .enum-told .given .1,
 )
 
 pub read-whole-spec : {M : Type 1} → statement M
 read-whole-spec =
     tie.close
     (tie.spec
-    start-requires
-    channel-part-requires
-    process-part-requires
-    list-part-requires
-    location-part-requires
+    read-head-requires
     init-part-requires
-    list-part-requires-2
+    edge-part-requires
     end-part-requires
-    returns)
+    enum-known-end
+    refused-requires
+    enum-told
+    returns
+    returns-2)

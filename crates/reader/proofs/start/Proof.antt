@@ -1,15 +1,15 @@
--- `start` is `start`.
+-- `start` is the head of `start`.
 use borrow.Author.Needs.{needs}
 use Rattle.reader.specs.Reading.{start}
 use Rattle.reader.proofs.start.Statement.{statement}
 use Rattle.reader.proofs.start.Tie as tie
 
-no-text-requires : tie.Need-no-text-requires
-no-text-requires c κs = search needs
+no-head-requires : tie.Need-no-head-requires
+no-head-requires c κs = search needs
 
 returns : tie.Need-returns
 unfolding start
-returns c = rw (c .no-text .ensures)
+returns c = rw (c .no-head .ensures)
 
 pub start-spec : {M : Type 1} → statement M
-start-spec = tie.close (tie.spec no-text-requires returns)
+start-spec = tie.close (tie.spec no-head-requires returns)

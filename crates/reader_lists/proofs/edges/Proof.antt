@@ -2,29 +2,37 @@
 use borrow.Author.Needs.{needs}
 use borrow.Author.Tests.{not-true, not-false, leb-false}
 use native.Mathlib.Omega.{arith}
-use mathlib.Core.Path.{_≡_, refl, sym, _∙_}
+use mathlib.Core.Path.{_≡_, sym, _∙_}
 use mathlib.Core.Logic.{⊎-elim}
-use Prim.Native.Nat.{_<_}
+use Prim.Native.Nat.{ℕ, _<_}
 use lib.Dec.{leb}
 use Rattle.reader_record.specs.Limits.{edge-limit}
 use Rattle.reader_edges.specs.Facts.{channel-small}
 use Rattle.reader_lists.specs.declared.Item.the-variants.{Edge}
+use Rattle.reader_lists.specs.declared.Head.{Head}
 use Rattle.reader_lists.specs.State.{with-edge}
-use Rattle.reader_lists.specs.Lists.{limit, edge, items-from, items}
+use Rattle.reader_lists.specs.Lists.{edge, items-from, items}
 use Rattle.reader_lists.specs.Turns.{state-of}
+use Rattle.reader_lists.specs.Heads.{whole, with-channels, no-edges, with-head, before-edges}
 use Rattle.reader_lists.proofs.Laws.{items-last, items-more, more-room}
 use Rattle.reader_lists.proofs.edges.Statement.{statement}
 use Rattle.reader_lists.proofs.edges.Tie as tie
 
 abbrev Inv-loop : tie.InvT-loop
-Inv-loop s names st₀ text₀ room₀ st text room =
-    items-from room Edge s (state-of st names text) ≡ items-from (limit Edge) Edge s (state-of st₀ names text₀)
+Inv-loop s names st₀ channels₀ edges₀ n₀ room₀ st channels edges n room =
+    (h : Head) (init : ℕ) →
+    items-from room Edge s (state-of st names (whole (with-channels h channels) init edges n))
+    ≡ items Edge s (with-head names h init (before-edges st₀ channels₀))
 
 abbrev μ-loop : tie.MeasureT-loop
-μ-loop s names st₀ text₀ room₀ st text room = room
+μ-loop s names st₀ channels₀ edges₀ n₀ room₀ st channels edges n room = room
+
+no-edge-requires : tie.Need-no-edge-requires Inv-loop μ-loop
+no-edge-requires c κs = search needs
 
 loop-holds : tie.Need-loop-holds Inv-loop μ-loop
-loop-holds c = refl
+unfolding items no-edges
+loop-holds c h init = rw (c .no-edge .ensures)
 
 edge-next-requires : tie.Need-edge-next-requires Inv-loop μ-loop
 edge-next-requires c κs = search needs
@@ -33,45 +41,44 @@ marked-requires : tie.Need-marked-requires Inv-loop μ-loop
 marked-requires c κs = rw (c .before .before .edge-next .ensures) (channel-small _ _ _ _ _)
 
 edge-room : (c : tie.After-marked Inv-loop μ-loop) →
-    c .before .before .before .before .before .loop .text .«edge_count» < edge-limit
+    c .before .before .before .before .loop .n < edge-limit
 edge-room c = leb-false edge-limit _ (not-true _ (c .before .before .if1 .taken))
 
-mul-edge : tie.Need-mul-edge Inv-loop μ-loop
-mul-edge c = omega (arith, edge-room c)
+mul-edges : tie.Need-mul-edges Inv-loop μ-loop
+mul-edges c = omega (arith, edge-room c)
 
-element-set-from-edge : tie.Need-element-set-from-edge Inv-loop μ-loop
-element-set-from-edge c = edge-room c
+array-set-from-edges : tie.Need-array-set-from-edges Inv-loop μ-loop
+array-set-from-edges c = edge-room c
 
-add-text : tie.Need-add-text Inv-loop μ-loop
-add-text c = omega (arith, edge-room c)
+add-n : tie.Need-add-n Inv-loop μ-loop
+add-n c = omega (arith, edge-room c)
 
--- an edge is read, and is in the record where there is room for it
+-- an edge is read, and is in the list where there is room for it
 one-edge :
-    (c : tie.Joined1 Inv-loop μ-loop) →
-    let loop = c .before .before .before .loop in
-    let args = c .before .before .before .before .before .before .before .args in
-    state-of (c .before .edge-next .result .status) (args .r .names) (c .if1 .text)
-    ≡ edge (args .s .now) (state-of (loop .st) (args .r .names) (loop .text))
+    (c : tie.Joined1 Inv-loop μ-loop) (h : Head) (init : ℕ) →
+    let loop = c .before .before .loop in
+    let args = c .before .before .before .before .before .args in
+    let now = whole (with-channels h (c .if1 .channels)) init (c .if1 .edges) (c .if1 .n) in
+    let before = whole (with-channels h (loop .channels)) init (loop .edges) (loop .n) in
+    state-of (c .before .edge-next .result .status) (args .names) now
+    ≡ edge (args .s .now) (state-of (loop .st) (args .names) before)
 unfolding edge with-edge
-one-edge c =
-    let full = leb edge-limit (c .before .before .before .loop .text .«edge_count») in
+one-edge c h init =
+    let full = leb edge-limit (c .before .before .loop .n) in
     ⊎-elim
-    (λ w. rw (w .3, sym (c .before .edge-next .ensures), not-true full (w .0 .taken), sym (w .2 .ensures)))
-    (λ w. rw (w .1, sym (c .before .edge-next .ensures), not-false full (w .0 .left)))
+    (λ w. rw (w .3, w .4, w .5, ← c .before .edge-next .ensures, not-true full (w .0 .taken), ← w .2 .ensures))
+    (λ w. rw (w .1, w .2, w .3, ← c .before .edge-next .ensures, not-false full (w .0 .left)))
     (c .if1 .came)
 
 after-item-requires : tie.Need-after-item-requires Inv-loop μ-loop
 after-item-requires c κs = search needs
 
-state-of-requires : tie.Need-state-of-requires Inv-loop μ-loop
-state-of-requires c κs = search needs
-
 returns : tie.Need-returns Inv-loop μ-loop
-unfolding items
-returns c =
-    let loop = c .before .before .before .before .before .before .before .loop in
-    c .state-of .ensures ∙ (sym (items-last _ _ _ (one-edge (c .before .before .before .before)) (loop .room)
-    (c .before .before .before .after-item .ensures) (not-true _ (c .before .if2 .taken))) ∙ loop .inv)
+returns c h init =
+    let loop = c .before .before .before .before .before .loop in
+    sym (loop .inv h init)
+    ∙ items-last _ _ _ (one-edge (c .before .before .before) h init) (loop .room)
+    (c .before .before .after-item .ensures) (not-true _ (c .if2 .taken))
 
 sub-room : tie.Need-sub-room Inv-loop μ-loop
 sub-room c = more-room _ _ _ (c .before .before .after-item .ensures) (not-false _ (c .if2 .left))
@@ -83,10 +90,10 @@ loop-less c = omega (
 )
 
 loop-again : tie.Need-loop-again Inv-loop μ-loop
-loop-again c =
-    let loop = c .before .before .before .before .before .before .loop in
-    sym (items-more _ _ _ (one-edge (c .before .before .before)) (loop .room)
-    (c .before .before .after-item .ensures) (not-false _ (c .if2 .left))) ∙ loop .inv
+loop-again c h init =
+    let loop = c .before .before .before .before .before .loop in
+    sym (items-more _ _ _ (one-edge (c .before .before .before) h init) (loop .room)
+    (c .before .before .after-item .ensures) (not-false _ (c .if2 .left))) ∙ loop .inv h init
 
 pub edges-spec : {M : Type 1} → statement M
 edges-spec =
@@ -94,14 +101,14 @@ edges-spec =
     (tie.spec
     Inv-loop
     μ-loop
+    no-edge-requires
     loop-holds
     edge-next-requires
     marked-requires
-    mul-edge
-    element-set-from-edge
-    add-text
+    mul-edges
+    array-set-from-edges
+    add-n
     after-item-requires
-    state-of-requires
     returns
     sub-room
     loop-less

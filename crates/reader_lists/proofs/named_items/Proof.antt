@@ -4,29 +4,33 @@ use borrow.Author.Tests.{not-true, not-false}
 use native.Mathlib.Omega.{arith}
 use mathlib.Core.Path.{_≡_, sym, _∙_}
 use mathlib.Core.Logic.{⊎-elim}
-use Prim.Native.Nat.{_<_}
+use mathlib.Core.List.{List}
+use Prim.Native.Nat.{ℕ, _<_}
 use Rattle.reader_record.specs.Limits.{channel-limit, clock-limit, location-limit}
+use Rattle.reader_record.specs.declared.Edge.{Edge}
 use Rattle.reader_lists.specs.State.{with-channel, with-clock, with-location}
 use Rattle.reader_lists.specs.Lists.{channel, clock, location, one-item, limit, items-from, items}
 use Rattle.reader_lists.specs.Turns.{item, state-of}
+use Rattle.reader_lists.specs.Heads.{whole}
 use Rattle.reader_lists.proofs.Laws.{items-last, items-more, more-room}
 use Rattle.reader_lists.proofs.Laws.{slots-fit, room-for, not-full, full, one-over}
 use Rattle.reader_lists.proofs.named_items.Statement.{statement}
 use Rattle.reader_lists.proofs.named_items.Tie as tie
 
 abbrev Inv-loop : tie.InvT-loop
-Inv-loop s k st₀ names₀ text₀ room₀ st names text room =
-    items-from room (item k) s (state-of st names text)
-    ≡ items-from (limit (item k)) (item k) s (state-of st₀ names₀ text₀)
+Inv-loop s k st₀ names₀ head₀ room₀ st names head room =
+    (init : ℕ) (edges : List Edge) (count : ℕ) →
+    items-from room (item k) s (state-of st names (whole head init edges count))
+    ≡ items-from (limit (item k)) (item k) s (state-of st₀ names₀ (whole head₀ init edges count))
 
 abbrev μ-loop : tie.MeasureT-loop
-μ-loop s k st₀ names₀ text₀ room₀ st names text room = room
+μ-loop s k st₀ names₀ head₀ room₀ st names head room = room
 
 limit-requires : tie.Need-limit-requires Inv-loop μ-loop
 limit-requires c κs = search needs
 
 loop-holds : tie.Need-loop-holds Inv-loop μ-loop
-loop-holds c = rw (c .limit .ensures)
+loop-holds c init edges count = rw (c .limit .ensures)
 
 count-requires : tie.Need-count-requires Inv-loop μ-loop
 count-requires c κs = search needs
@@ -63,8 +67,8 @@ mul-channel c = omega (arith, channel-room c)
 element-set-from-channel : tie.Need-element-set-from-channel Inv-loop μ-loop
 element-set-from-channel c = channel-room c
 
-add-text : tie.Need-add-text Inv-loop μ-loop
-add-text c = omega (arith, channel-room c)
+add-head : tie.Need-add-head Inv-loop μ-loop
+add-head c = omega (arith, channel-room c)
 
 enum-told-2 : tie.Need-enum-told-2 Inv-loop μ-loop
 enum-told-2 c = search needs
@@ -81,8 +85,8 @@ mul-name c = omega (arith, clock-room c)
 element-set-from-name : tie.Need-element-set-from-name Inv-loop μ-loop
 element-set-from-name c = clock-room c
 
-add-text-2 : tie.Need-add-text-2 Inv-loop μ-loop
-add-text-2 c = omega (arith, clock-room c)
+add-head-2 : tie.Need-add-head-2 Inv-loop μ-loop
+add-head-2 c = omega (arith, clock-room c)
 
 enum-told-3 : tie.Need-enum-told-3 Inv-loop μ-loop
 enum-told-3 c = search needs
@@ -104,25 +108,26 @@ mul-location c = omega (arith, location-room c)
 element-set-from-location : tie.Need-element-set-from-location Inv-loop μ-loop
 element-set-from-location c = location-room c
 
-add-text-3 : tie.Need-add-text-3 Inv-loop μ-loop
-add-text-3 c = omega (arith, location-room c)
+add-head-3 : tie.Need-add-head-3 Inv-loop μ-loop
+add-head-3 c = omega (arith, location-room c)
 
--- an item is read, and is in the record where there is room for it
+-- an item is read, and is in the head where there is room for it
 one-named :
-    (c : tie.Joined1 Inv-loop μ-loop) →
+    (c : tie.Joined1 Inv-loop μ-loop) (init : ℕ) (edges : List Edge) (count : ℕ) →
     let loop = c .before .before .before .before .before .before .loop in
     let args = c .before .before .before .before .before .before .before .before .before .before .before .args in
-    state-of (c .if1 .st) (c .if1 .names) (c .if1 .text)
-    ≡ one-item (item (args .k)) (args .s .now) (state-of (loop .st) (loop .names) (loop .text))
+    let before = state-of (loop .st) (loop .names) (whole (loop .head) init edges count) in
+    state-of (c .if1 .st) (c .if1 .names) (whole (c .if1 .head) init edges count)
+    ≡ one-item (item (args .k)) (args .s .now) before
 unfolding channel clock location with-channel with-clock with-location
-one-named c =
+one-named c init edges count =
     let a = c .before .before in
     let d = a .declare .ensures in
     let f = a .before .before .first-slot .ensures in
     let l = a .before .limit2 .ensures in
     let n = a .before .before .before .count .ensures in
     let m = c .before .limit3 .ensures in
-    let text = a .before .before .before .before .loop .text in
+    let text = whole (a .before .before .before .before .loop .head) init edges count in
     let k = a .before .before .before .before .before .before .before .before .before .args .k in
     ⊎-elim
     (λ w. rw (
@@ -158,15 +163,18 @@ one-named c =
 after-item-requires : tie.Need-after-item-requires Inv-loop μ-loop
 after-item-requires c κs = search needs
 
-state-of-requires : tie.Need-state-of-requires Inv-loop μ-loop
-state-of-requires c κs = search needs
+head-read-requires : tie.Need-head-read-requires Inv-loop μ-loop
+head-read-requires c κs = search needs
 
 returns : tie.Need-returns Inv-loop μ-loop
 unfolding items
-returns c =
-    let loop = c .before .before .before .before .before .before .before .before .before .before .loop in
-    c .state-of .ensures ∙ (sym (items-last _ _ _ (one-named (c .before .before .before .before)) (loop .room)
-    (c .before .before .before .after-item .ensures) (not-true _ (c .before .if2 .taken))) ∙ loop .inv)
+returns c init edges count =
+    let over = c .before .before .before in
+    let loop = over .before .before .before .before .before .before .before .loop in
+    rw (c .head-read .ensures)
+    (sym (loop .inv init edges count)
+    ∙ items-last _ _ _ (one-named (over .before) init edges count) (loop .room)
+    (over .after-item .ensures) (not-true _ (c .before .if2 .taken)))
 
 sub-room : tie.Need-sub-room Inv-loop μ-loop
 sub-room c = more-room _ _ _ (c .before .before .after-item .ensures) (not-false _ (c .if2 .left))
@@ -178,10 +186,10 @@ loop-less c = omega (
 )
 
 loop-again : tie.Need-loop-again Inv-loop μ-loop
-loop-again c =
+loop-again c init edges count =
     let loop = c .before .before .before .before .before .before .before .before .before .loop in
-    sym (items-more _ _ _ (one-named (c .before .before .before)) (loop .room)
-    (c .before .before .after-item .ensures) (not-false _ (c .if2 .left))) ∙ loop .inv
+    sym (items-more _ _ _ (one-named (c .before .before .before) init edges count) (loop .room)
+    (c .before .before .after-item .ensures) (not-false _ (c .if2 .left))) ∙ loop .inv init edges count
 
 pub named-items-spec : {M : Type 1} → statement M
 named-items-spec =
@@ -200,18 +208,18 @@ named-items-spec =
     unused-requires
     mul-channel
     element-set-from-channel
-    add-text
+    add-head
     enum-told-2
     mul-name
     element-set-from-name
-    add-text-2
+    add-head-2
     enum-told-3
     invariant-requires
     mul-location
     element-set-from-location
-    add-text-3
+    add-head-3
     after-item-requires
-    state-of-requires
+    head-read-requires
     returns
     sub-room
     loop-less
