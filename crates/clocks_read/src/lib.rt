@@ -77,8 +77,8 @@ fn judged(t: Text, moves: &mut [u16], holds: &mut [u8]) -> Reading
         (judged-loading t (now (moves .entry)) (now (holds .entry))) ⌝ }
 {
     let r = clocks_states::ranges_of(t);
-    let n = clocks_states::state_count_of(t, r);
-    let j = clocks_table::judge(t, moves, holds);
+    let n = clocks_states::state_count_of(t.location_count, r);
+    let j = clocks_table::judge(t, r, n, moves, holds);
     answer_of(j, t, n)
 }
 

@@ -1,2 +1,2 @@
 pub mod Counts
-pub mod Start
+pub mod Parts

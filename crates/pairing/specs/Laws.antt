@@ -1,21 +1,21 @@
 -- One turn of each search, of the map and of the table, as the code takes them.
-use mathlib.Core.Path.{_≡_, sym}
+use mathlib.Core.Path.{_≡_, sym, ap, _∙_}
 use mathlib.Core.Bool.{true, false, not}
 use mathlib.Core.List.{List, append-nil}
-use Prim.Native.Nat.{ℕ, _+_, _*_, _/_, _%_, _≤_, _<_}
-use native.Mathlib.Nat.{mod-lt, div-lt-iff-lt-mul}
+use Prim.Native.Nat.{ℕ, _+_, _*_, _≤_, _<_}
+use native.Mathlib.Nat.{mul-le-mul-right}
 use native.Mathlib.Omega.{arith}
-use lib.Arith.{digits-lt}
-use lib.ListN.{getD, drop, replicate}
+use lib.ListN.{length, getD, set, drop, replicate}
 use borrow.Author.Tests.{eq-eqb, ne-eqb, lt-ltb, le-ltb, le-leb, lt-leb}
 use Rattle.reader_tokens.specs.Scan.{same}
 use Rattle.reader_record.specs.declared.Name.{Name}
 use Rattle.reader_record.specs.declared.Text.{Text}
-use Rattle.clocks_bits.specs.Bits.{tab-from, written}
+use Rattle.clocks_bits.specs.Bits.{tab-from, written, written-at, written-past, written-more}
+use Rattle.clocks_states.specs.Counts.{times-bound}
 use Rattle.clocks.specs.States.{input}
 use Rattle.pairing.specs.Channels.{name-of, alike, partner, agree, matched, first-unmatched, right-step, most-steps}
 use Rattle.pairing.specs.Lowest.{upward, search-begins, search-finds, search-goes, search-ends}
-use Rattle.pairing.specs.Table.{Renumbering}
+use Rattle.pairing.specs.Table.{renumbered, renumbered-at, row-entry, Steps-there, Renumbering, Row-there, Row-of, Row-written}
 
 -- the search for a partner, from channel d on
 abbrev pub seek : List ℕ → Name → List ℕ → Text → ℕ → ℕ
@@ -91,15 +91,52 @@ pub written-whole : (f : ℕ → ℕ) (n : ℕ) → n ≡ most-steps → written
 unfolding written
 written-whole f n e = rw (e, append-nil)
 
--- the places of a row in the two tables
-module _
-    {from : ℕ} {map : List ℕ} {to n right left : ℕ} (h : Renumbering from map to n right left) (p : ℕ)
-    (l : p < n * left) where
-  pub column : p % left < left
-  column = mod-lt p (h .some)
+-- a row, entry by entry, from a copy of what stood there
+module _ (table map : List ℕ) (from : ℕ) where
+  pub row-none : (d : List ℕ) → Row-written table map from 0 d d
+  row-none d f e r l h = h ∙ ap (λ (n : ℕ). written f n e) (omega arith)
 
-  pub row-in : p / left < n
-  row-in = div-lt-iff-lt-mul (h .some) .1 l
+  pub row-more : (c width : ℕ) (d k row : List ℕ) → c < width → Steps-there map width
+      → row ≡ written (row-entry table from) width (replicate most-steps 0)
+      → Row-written table map from c d k
+      → Row-written table map from (c + 1) d (set k (from + c) (getD row (getD map c 0) 0))
+  row-more c width d k row b t q h f e r l w =
+      let v : getD row (getD map c 0) 0 ≡ f (from + c) =
+      ap (λ (x : List ℕ). getD x (getD map c 0) 0) q
+      ∙ written-at (row-entry table from) width (replicate most-steps 0) (getD map c 0) (t c b)
+      ∙ sym (r c (omega arith)) in
+      rw (h f e (λ i m. r i (omega arith)) (omega arith) w)
+      (written-more f (from + c) e _ (omega arith) v
+      ∙ ap (λ (n : ℕ). written f n e) (omega arith))
 
-  pub place-in : p / left * right + getD map (p % left) 0 < n * right
-  place-in = digits-lt row-in (h .steps (p % left) column)
+  pub row-done : (c width : ℕ) (d k : List ℕ) → Row-written table map from c d k → c ≡ width → Row-written table map
+      from width d k
+  row-done c width d k h q = rw (sym q) h
+
+-- the rows of the table
+module _ {entries : ℕ} {map : List ℕ} {n width : ℕ} (h : Renumbering entries map n width) (row : ℕ) (l : row < n) where
+  pub row-there : Row-there entries (row * width) width
+  row-there =
+      let a = times-bound row width 4096 17 (omega (arith, h .rows)) (h .few) in
+      record {
+        few = h .few;
+        inside = omega (arith, row-ends, h .long);
+        low = omega (arith, h .few);
+      }
+    where
+      row-ends : row * width + width ≤ n * width
+      row-ends = omega (arith, mul-le-mul-right width l)
+
+  -- one row more: the rows from this one on are still those of the table as it was
+  pub rows-more : (d e k : List ℕ) → length e ≡ entries → d ≡ written (renumbered e map width width) (row * width) e
+      → Row-written d map (row * width) width d k
+      → k ≡ written (renumbered e map width width) ((row + 1) * width) e
+  rows-more d e k s q w =
+      let f = renumbered e map width width in
+      w f e as-it-was (omega (arith, row-there .inside)) q ∙ ap (λ (i : ℕ). written f i e) (omega arith)
+    where
+      as-it-was : Row-of d map (row * width) width (renumbered e map width width)
+      as-it-was c b =
+          renumbered-at e map width width row c b
+          ∙ sym (written-past (renumbered e map width width) (row * width) e (row * width + getD map c 0) (omega arith))
+          ∙ ap (λ (x : List ℕ). row-entry x (row * width) (getD map c 0)) (sym q)

@@ -43,10 +43,3 @@ module _ (s : List ℕ) (l : Text) (u : List ℕ) (r : Text) where
   pub map-below : Well-formed l → (c : ℕ) → c < l .«channel_count» + 1 → getD (pairing s l u r .map) c 0
       < r .«channel_count» + 1
   map-below w c h = rw (map-at c (omega (arith, w .channels))) (step-below c)
-
--- row t and step c of the renumbered table
-pub renumbered-at :
-    (table map : List ℕ) (right left t c : ℕ) → c < left
-    → renumbered table map right left (t * left + c) ≡ getD table (t * right + getD map c 0) 0
-unfolding renumbered
-renumbered-at table map right left t c h = rw (digits-div t h, digits-mod t h)

@@ -2,11 +2,15 @@
 ghost use mathlib.Core.Path.{_≡_};
 ghost use mathlib.Core.Bool.{Bool, true, false};
 ghost use Prim.Native.Nat.{ℕ, _+_, _-_, _*_, _≤_, _<_};
-ghost use lib.ListN.{length, getD};
+ghost use lib.ListN.{length, replicate};
 ghost use Rattle.reader_record.specs.Formed.{Well-formed};
+ghost use Rattle.reader_record.specs.Limits.{channel-limit};
 ghost use Rattle.clocks_bits.specs.Bits.{tab-from, written};
 ghost use Rattle.pairing.specs.Channels.{name-of, alike, partner, agree, matched, first-unmatched, verdict, right-step, pairing, most-steps};
-ghost use Rattle.pairing.specs.Table.{renumbered, Renumbering};
+ghost use Rattle.pairing.specs.Only.{only, channels-of};
+ghost use Rattle.pairing.specs.Table.{renumbered, row-entry, Renumbering, Row-there, Steps-there, Row-written};
+use reader_record::CHANNEL_LIMIT;
+use reader_record::Channel;
 use reader_record::Name;
 use reader_record::Text;
 use refusals::Refusal;
@@ -23,14 +27,30 @@ pub struct Pairing {
     pub map: [usize; 17],
 }
 
-// The channel of the text r that has the name, from 1; 0 if it has none.
-fn partner_of(s: &[u8], name: Name, u: &[u8], r: Text) -> usize
-    requires { ⌜ Well-formed r ⌝ }
-    ensures { λ d. ⌜ d ≡ partner (now (s .entry)) name (now (u .entry)) r ⌝ }
+// The channels of a text: the first `count` of the list. What is compared are these alone, since a text is long.
+struct Channels {
+    list: [Channel; CHANNEL_LIMIT],
+    count: usize,
+}
+
+fn channels_of(t: Text) -> Channels
+    ensures { λ r. ⌜ r ≡ channels-of t ⌝ }
+{
+    let list = t.channels;
+    Channels {
+        list: list,
+        count: t.channel_count,
+    }
+}
+
+// The channel of those in r that has the name, from 1; 0 if it has none.
+fn partner_of(s: &[u8], name: Name, u: &[u8], r: Channels) -> usize
+    requires { ⌜ r .count ≤ channel-limit ⌝ }
+    ensures { λ d. ⌜ d ≡ partner (now (s .entry)) name (now (u .entry)) (only r) ⌝ }
 {
     let mut d: usize = 1;
-    while d <= r.channel_count {
-        let k = r.channels[d - 1];
+    while d <= r.count {
+        let k = r.list[d - 1];
         let n = k.name;
         if reader_tokens::is_same(s, name.place, name.len, u, n.place, n.len) {
             return d;
@@ -51,28 +71,30 @@ fn do_agree(a: bool, b: bool) -> bool
 }
 
 // Whether the text r has channel c of the text l, and with the same direction.
-fn is_matched(s: &[u8], l: Text, u: &[u8], r: Text, c: usize) -> bool
-    requires { ⌜ Well-formed l × Well-formed r × (0 < c) × (c ≤ l .«channel_count») ⌝ }
-    ensures { λ b. ⌜ b ≡ matched (now (s .entry)) l (now (u .entry)) r c ⌝ }
+fn is_matched(s: &[u8], l: Channels, u: &[u8], r: Channels, c: usize) -> bool
+    requires { ⌜ (l .count ≤ channel-limit) × (r .count ≤ channel-limit) × (0 < c) × (c ≤ l .count) ⌝ }
+    ensures { λ b. ⌜ b ≡ matched (now (s .entry)) (only l) (now (u .entry)) (only r) c ⌝ }
 {
-    let k = l.channels[c - 1];
+    let k = l.list[c - 1];
     let name = k.name;
     let d = partner_of(s, name, u, r);
     if d == 0 {
         return false;
     }
-    let a = clocks_states::is_input_step(l, c);
-    let b = clocks_states::is_input_step(r, d);
+    let ours = l.list;
+    let theirs = r.list;
+    let a = clocks_states::is_input_step(ours, l.count, c);
+    let b = clocks_states::is_input_step(theirs, r.count, d);
     do_agree(a, b)
 }
 
 // The lowest channel of the text l that the text r lacks or uses with the other direction; 0 if there is none.
-fn unmatched_of(s: &[u8], l: Text, u: &[u8], r: Text) -> usize
-    requires { ⌜ Well-formed l × Well-formed r ⌝ }
-    ensures { λ c. ⌜ c ≡ first-unmatched (now (s .entry)) l (now (u .entry)) r ⌝ }
+fn unmatched_of(s: &[u8], l: Channels, u: &[u8], r: Channels) -> usize
+    requires { ⌜ (l .count ≤ channel-limit) × (r .count ≤ channel-limit) ⌝ }
+    ensures { λ c. ⌜ c ≡ first-unmatched (now (s .entry)) (only l) (now (u .entry)) (only r) ⌝ }
 {
     let mut c: usize = 1;
-    while c <= l.channel_count {
+    while c <= l.count {
         if !is_matched(s, l, u, r, c) {
             return c;
         }
@@ -107,25 +129,25 @@ fn verdict_of(c: usize, d: usize) -> Matched
 }
 
 // The right's number of the left's step c.
-fn step_of(s: &[u8], l: Text, u: &[u8], r: Text, c: usize) -> usize
-    requires { ⌜ Well-formed l × Well-formed r ⌝ }
-    ensures { λ d. ⌜ d ≡ right-step (now (s .entry)) l (now (u .entry)) r c ⌝ }
+fn step_of(s: &[u8], l: Channels, u: &[u8], r: Channels, c: usize) -> usize
+    requires { ⌜ (l .count ≤ channel-limit) × (r .count ≤ channel-limit) ⌝ }
+    ensures { λ d. ⌜ d ≡ right-step (now (s .entry)) (only l) (now (u .entry)) (only r) c ⌝ }
 {
     if c == 0 {
         return 0;
     }
-    if l.channel_count < c {
+    if l.count < c {
         return 0;
     }
-    let channel = l.channels[c - 1];
+    let channel = l.list[c - 1];
     let name = channel.name;
     partner_of(s, name, u, r)
 }
 
 // The right's numbers of the left's steps, from the tick on.
-fn steps_of(s: &[u8], l: Text, u: &[u8], r: Text) -> [usize; 17]
-    requires { ⌜ Well-formed l × Well-formed r ⌝ }
-    ensures { λ m. ⌜ m ≡ tab-from (right-step (now (s .entry)) l (now (u .entry)) r) 0 most-steps ⌝ }
+fn steps_of(s: &[u8], l: Channels, u: &[u8], r: Channels) -> [usize; 17]
+    requires { ⌜ (l .count ≤ channel-limit) × (r .count ≤ channel-limit) ⌝ }
+    ensures { λ m. ⌜ m ≡ tab-from (right-step (now (s .entry)) (only l) (now (u .entry)) (only r)) 0 most-steps ⌝ }
 {
     let mut map = [0; 17];
     let mut c: usize = 0;
@@ -141,33 +163,52 @@ pub fn pair_channels(left: &[u8], l: Text, right: &[u8], r: Text) -> Pairing
     requires { ⌜ Well-formed l × Well-formed r ⌝ }
     ensures { λ a. ⌜ a ≡ pairing (now (left .entry)) l (now (right .entry)) r ⌝ }
 {
-    let c = unmatched_of(left, l, right, r);
-    let d = unmatched_of(right, r, left, l);
+    let ours = channels_of(l);
+    let theirs = channels_of(r);
+    let c = unmatched_of(left, ours, right, theirs);
+    let d = unmatched_of(right, theirs, left, ours);
     let answer = verdict_of(c, d);
-    let map = steps_of(left, l, right, r);
+    let map = steps_of(left, ours, right, theirs);
     Pairing { answer, map }
 }
 
-// The right's move table, of n rows, by the left's steps.
-pub fn renumber(
-    src: &[u16],
-    map: [usize; 17],
-    dst: &mut [u16],
-    n: usize,
-    right_width: usize,
-    left_width: usize,
-)
-    requires { ⌜ Renumbering (length (now src)) map (length (now dst)) n «right_width» «left_width» ⌝ }
-    ensures { λ _. ⌜ now (dst .exit) ≡ written (renumbered (now (src .entry)) map «right_width» «left_width»)
-        (n * «left_width») (now (dst .entry)) ⌝ }
+// The row that starts at `from`, of so many steps, out of the table.
+fn row_at(moves: &[u16], from: usize, width: usize) -> [u16; 17]
+    requires { ⌜ Row-there (length (now moves)) from width ⌝ }
+    ensures { λ r. ⌜ r ≡ written (row-entry (now (moves .entry)) from) width (replicate most-steps 0) ⌝ }
 {
-    let size = n * left_width;
-    let mut p: usize = 0;
-    while p < size {
-        let row = p / left_width;
-        let c = p % left_width;
+    let mut row = [0; 17];
+    let mut c: usize = 0;
+    while c < width {
+        row[c] = moves[from + c];
+        c += 1;
+    }
+    row
+}
+
+// The row that starts at `from`, by the other text's steps.
+fn renumber_row(moves: &mut [u16], map: [usize; 17], from: usize, width: usize)
+    requires { ⌜ Row-there (length (now moves)) from width × Steps-there map width ⌝ }
+    ensures { λ _. ⌜ Row-written (now (moves .entry)) map from width (now (moves .entry)) (now (moves .exit)) ⌝ }
+{
+    let row = row_at(moves, from, width);
+    let mut c: usize = 0;
+    while c < width {
         let d = map[c];
-        dst[p] = src[row * right_width + d];
-        p += 1;
+        moves[from + c] = row[d];
+        c += 1;
+    }
+}
+
+// The right's move table, of n rows, by the left's steps; both have equally many.
+pub fn renumber(moves: &mut [u16], map: [usize; 17], n: usize, width: usize)
+    requires { ⌜ Renumbering (length (now moves)) map n width ⌝ }
+    ensures { λ _. ⌜ now (moves .exit) ≡ written (renumbered (now (moves .entry)) map width width) (n * width)
+        (now (moves .entry)) ⌝ }
+{
+    let mut row: usize = 0;
+    while row < n {
+        renumber_row(moves, map, row * width, width);
+        row += 1;
     }
 }

@@ -23,10 +23,11 @@ fn found(t: Text, n: usize, moves: &[u16], holds: &[u8], keep: &mut [u8]) -> Saf
     ensures { λ r. ⌜ _≡_ {A = Outcome} (record { answer = r; keep = now (keep .exit) })
         (found-outcome t (now (keep .entry))) ⌝ }
 {
-    let inputs = clocks_states::inputs_of(t);
+    let channels = t.channels;
+    let inputs = clocks_states::inputs_of(channels, t.channel_count);
     let steps = t.channel_count + 1;
     let count = clocks_safe::safe(&mut *keep, holds, moves, &inputs, n, steps);
-    let start = clocks_states::start_of(t);
+    let start = clocks_states::start_of(t.init, t.location_count, n);
     let safe = clocks_bits::get(keep, start);
     SafeAnswer::Found(count, safe)
 }

@@ -26,10 +26,11 @@ use Rattle.pairing.specs.declared.Matched.the-variants.{Equal, Unmatched}
 use Rattle.pairing.specs.declared.Pairing.{Pairing}
 use Rattle.pairing.specs.Channels.{left-file, right-file, unmatched, pairing, most-steps}
 use Rattle.pairing.specs.Table.{renumbered, Renumbering}
+use Rattle.pairing.specs.Counts.{equally-many}
 use Rattle.two_texts.specs.declared.TwoAnswer.the-variants.{Accepted, Refused}
 use Rattle.two_texts.specs.declared.Two.{Two}
 use Rattle.two_texts.specs.Two.{text-of, too-long-in, refused-in, refused-pairing, or-else, two-judged, step-of}
-use Rattle.two_texts.specs.Laws.{Judged, judged-none}
+use Rattle.two_texts.specs.Laws.{Judged, judged-none, named}
 use Rattle.two_texts.specs.Loaded.{refusal-in, Loads}
 use Rattle.two_texts.specs.Answers.{refused, accepted as accepted-two, Sized, Accepted-reading, by-left, Filled, Paired, Right-loaded}
 use Rattle.two_texts.specs.Tables.{table-fits, step-below, map-at, both-loaded}
@@ -105,10 +106,10 @@ module _ (left : List ℕ) (l : Reading) (right : List ℕ) (r : Reading) (L : A
   unfolding pairing
   map-is = ap (λ (x : Pairing). x .map) pairing-is
 
-  pub paired-refused : (own d : List ℕ) (f : Refusal) (t : Two) → p .answer ≡ Unmatched f → t ≡ refused f
-      → Paired left right own d d t
+  pub paired-refused : (d : List ℕ) (f : Refusal) (t : Two) → p .answer ≡ Unmatched f → t ≡ refused f
+      → Paired left right d d d t
   unfolding refused-pairing
-  paired-refused own d f t a q = record {
+  paired-refused d f t a q = record {
     judged = rw (sym match-is ∙ a) (refusal-of f t q);
     numbers = refused-never f t q;
     moves = refused-never f t q;
@@ -122,37 +123,36 @@ module _ (left : List ℕ) (l : Reading) (right : List ℕ) (r : Reading) (L : A
       equal = sym match-is ∙ a;
     }
 
-    pub paired-renumbers : (own d : List ℕ) → table-limit ≤ length own → table-limit ≤ length d
-        → Renumbering (length own) (p .map) (length d) (r .states) (r .text .«channel_count» + 1)
-        (l .text .«channel_count» + 1)
-    paired-renumbers own d h k =
+    many : text-of left .«channel_count» ≡ text-of right .«channel_count»
+    many = equally-many left (text-of left) right (text-of right) (named left (both-judged .left-read))
+        (named right (both-judged .right-read)) (both-judged .equal)
+
+    pub paired-renumbers : (d : List ℕ) → table-limit ≤ length d
+        → Renumbering (length d) (p .map) (r .states) (l .text .«channel_count» + 1)
+    paired-renumbers d k =
         let wl = reading-accepted left l L in
         let wr = reading-accepted right r R in
-        rw (map-is, states-are right r R, text-is right r R, text-is left l L) (record {
-          some = omega arith;
+        rw (map-is, states-are right r R, text-is left l L) (record {
           few = omega (arith, wl .formed .channels);
-          few-right = omega (arith, wr .formed .channels);
           rows = judgement-few (text-of right) (wr .clean);
-          long = table-fits (text-of right) wr (text-of right .«channel_count» + 1) (length own)
-              (omega (arith, wr .formed .channels)) h;
-          room = table-fits (text-of right) wr (text-of left .«channel_count» + 1) (length d)
+          long = table-fits (text-of right) wr (text-of left .«channel_count» + 1) (length d)
               (omega (arith, wl .formed .channels)) k;
           steps = λ c m. rw (map-at left right both-judged c (omega (arith, wl .formed .channels)))
-              (step-below left right both-judged c m);
+              (omega (arith, step-below left right both-judged c m, many));
         })
 
-    pub paired-accepted : (own d after : List ℕ) (t : Two)
-        → after ≡ written (renumbered own (p .map) (r .text .«channel_count» + 1) (l .text .«channel_count» + 1))
+    pub paired-accepted : (d after : List ℕ) (t : Two)
+        → after ≡ written (renumbered d (p .map) (l .text .«channel_count» + 1) (l .text .«channel_count» + 1))
         (r .states * (l .text .«channel_count» + 1)) d
         → t ≡ accepted-two (l .text) (r .text)
-        → Paired left right own d after t
+        → Paired left right d d after t
     unfolding refused-pairing by-left
-    paired-accepted own d after t m q =
+    paired-accepted d after t m q =
         let n : t ≡ accepted-two (text-of left) (text-of right) = rw (text-is left l L, text-is right r R) at q in
         record {
           judged = rw (both-judged .equal) (numbers-none t (text-of left) (text-of right) n);
           numbers = λ _. n;
-          moves = λ _. rw (map-is, states-are right r R, text-is right r R, text-is left l L) at m;
+          moves = λ _. rw (sym many) (rw (map-is, states-are right r R, text-is left l L) at m);
         }
 
 -- a text after loading
@@ -213,11 +213,11 @@ module _ (left : List ℕ) (l : Reading) (L : Accepted-reading left l) (right m 
     filled = refused-never g t z;
   }
 
-  pub right-paired : (d d′ : List ℕ) (t : Two) → r .answer ≡ read.Accepted
-      → table-limit ≤ length m → table-limit ≤ length d → bytes-limit ≤ length h
-      → Paired left right own d d′ t → Right-loaded left right d′ h′ t
+  pub right-paired : (d : List ℕ) (t : Two) → r .answer ≡ read.Accepted
+      → table-limit ≤ length m → bytes-limit ≤ length h
+      → Paired left right own own d t → Right-loaded left right d h′ t
   unfolding or-else
-  right-paired d d′ t a j k n P =
+  right-paired d t a k n P =
       let wl = reading-accepted left l L in
       let wr = reading-accepted right r (loaded-reading right m h r own h′ e a) in
       record {
@@ -225,10 +225,10 @@ module _ (left : List ℕ) (l : Reading) (L : Accepted-reading left l) (right m 
         numbers = P .numbers;
         filled = λ z. record {
           own = own;
-          filled = loaded-filled right m h r own h′ e a j n;
-          before = d;
-          space = table-fits (text-of right) wr (text-of left .«channel_count» + 1) (length d)
-              (omega (arith, wl .formed .channels)) k;
+          filled = loaded-filled right m h r own h′ e a k n;
+          before = own;
+          space = table-fits (text-of right) wr (text-of left .«channel_count» + 1) (length own)
+              (omega (arith, wl .formed .channels)) (loaded-long right m h r own h′ e a k);
           moves-are = P .moves z;
         };
       }

@@ -51,9 +51,10 @@ fn accepted(l: Text, left_states: usize, r: Text, right_states: usize) -> Two
 {
     let answer = TwoAnswer::Accepted;
     let steps = l.channel_count + 1;
-    let left_start = clocks_states::start_of(l);
-    let right_start = clocks_states::start_of(r);
-    let inputs = clocks_states::inputs_of(l);
+    let left_start = clocks_states::start_of(l.init, l.location_count, left_states);
+    let right_start = clocks_states::start_of(r.init, r.location_count, right_states);
+    let channels = l.channels;
+    let inputs = clocks_states::inputs_of(channels, l.channel_count);
     Two {
         answer,
         left_states,
@@ -65,11 +66,10 @@ fn accepted(l: Text, left_states: usize, r: Text, right_states: usize) -> Two
     }
 }
 
-// Code 12, else the right's table `own` is written to `moves` by the left's steps.
-fn paired(left: &[u8], l: Reading, right: &[u8], r: Reading, own: &[u16], moves: &mut [u16]) -> Two
-    requires { ⌜ Accepted-reading (now left) l × Accepted-reading (now right) r × (table-limit ≤ length (now own))
-        × (table-limit ≤ length (now moves)) ⌝ }
-    ensures { λ t. ⌜ Paired (now (left .entry)) (now (right .entry)) (now (own .entry)) (now (moves .entry))
+// Code 12, else the right's table in `moves` is renumbered by the left's steps: there are equally many.
+fn paired(left: &[u8], l: Reading, right: &[u8], r: Reading, moves: &mut [u16]) -> Two
+    requires { ⌜ Accepted-reading (now left) l × Accepted-reading (now right) r × (table-limit ≤ length (now moves)) ⌝ }
+    ensures { λ t. ⌜ Paired (now (left .entry)) (now (right .entry)) (now (moves .entry)) (now (moves .entry))
         (now (moves .exit)) t ⌝ }
 {
     let a = l.text;
@@ -81,9 +81,8 @@ fn paired(left: &[u8], l: Reading, right: &[u8], r: Reading, own: &[u16], moves:
         Matched::Equal => {
             let map = pairing.map;
             let n = r.states;
-            let right_width = b.channel_count + 1;
-            let left_width = a.channel_count + 1;
-            pairing::renumber(own, map, moves, n, right_width, left_width);
+            let width = a.channel_count + 1;
+            pairing::renumber(moves, map, n, width);
             accepted(a, l.states, b, n)
         }
     }
@@ -95,15 +94,14 @@ fn load_right(left: &[u8], l: Reading, right: &[u8], moves: &mut [u16], holds: &
         × (bytes-limit ≤ length (now holds)) ⌝ }
     ensures { λ t. ⌜ Right-loaded (now (left .entry)) (now (right .entry)) (now (moves .exit)) (now (holds .exit)) t ⌝ }
 {
-    let mut own = clocks_read::no_moves();
-    let r = clocks_read::load(right, &mut own, holds);
+    let r = clocks_read::load(right, moves, holds);
     let answer = r.answer;
     match answer {
         ReadAnswer::Refused(f) => {
             let g = f.in_file(2);
             refused(g)
         }
-        ReadAnswer::Accepted => paired(left, l, right, r, &own, moves),
+        ReadAnswer::Accepted => paired(left, l, right, r, moves),
     }
 }
 

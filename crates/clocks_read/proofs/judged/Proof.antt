@@ -1,4 +1,5 @@
 use borrow.Author.Needs.{needs}
+use Rattle.clocks_states.specs.Parts.{counted, count-is}
 use Rattle.clocks_read.specs.Paths.{judged-done}
 use Rattle.clocks_read.proofs.judged.Statement.{statement}
 use Rattle.clocks_read.proofs.judged.Tie as tie
@@ -7,13 +8,28 @@ ranges-of-requires : tie.Need-ranges-of-requires
 ranges-of-requires c κs = search needs
 
 state-count-of-requires : tie.Need-state-count-of-requires
-state-count-of-requires c κs = search needs
+state-count-of-requires c κs =
+    let start = c .before .before .before in
+    counted (start .args .t) (start .pre .0) _ (c .ranges-of .ensures)
 
 judge-requires : tie.Need-judge-requires
-judge-requires c κs = search needs
+judge-requires c κs =
+    let counts = c .before .before in
+    let start = counts .before .before .before .before in (
+      record {
+        formed = start .pre .0;
+        same = counts .before .ranges-of .ensures;
+        count = count-is (start .args .t) _ (counts .before .ranges-of .ensures) _ (counts .state-count-of .ensures);
+      },
+      start .pre .1,
+      start .pre .2,
+    )
 
 answer-of-requires : tie.Need-answer-of-requires
-answer-of-requires c κs = search needs
+answer-of-requires c κs =
+    let counts = c .before .before .before .before .before .before .before in
+    let args = counts .before .before .before .before .args in
+    count-is (args .t) _ (counts .before .ranges-of .ensures) _ (counts .state-count-of .ensures)
 
 same-length : tie.Need-same-length
 same-length c = search needs

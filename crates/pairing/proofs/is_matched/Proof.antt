@@ -1,6 +1,9 @@
 -- `is_matched` is `matched`: lacking where the partner is 0, else by the directions.
 use borrow.Author.Needs.{needs}
 use mathlib.Core.Path.{sym, _∙_}
+use Rattle.clocks.specs.States.{input}
+use Rattle.clocks_states.specs.Parts.{channel-input}
+use Rattle.pairing.specs.Only.{only}
 use Rattle.pairing.specs.Laws.{matched-none, matched-some}
 use Rattle.pairing.proofs.is_matched.Statement.{statement}
 use Rattle.pairing.proofs.is_matched.Tie as tie
@@ -20,7 +23,7 @@ partner-of-requires c κs = search needs
 returns : tie.Need-returns
 returns c =
     let a = c .before .before .before .before .before .before .args in
-    sym (matched-none (a .s .now) (a .t2) (a .u .now) (a .r) (a .c) _ (c .before .partner-of .ensures) (c .if1 .taken))
+    sym (matched-none (a .s .now) (only (a .t2)) (a .u .now) (only (a .r)) (a .c) _ (c .before .partner-of .ensures) (c .if1 .taken))
 
 is-input-step-requires : tie.Need-is-input-step-requires
 is-input-step-requires c κs = search needs
@@ -32,14 +35,14 @@ do-agree-requires : tie.Need-do-agree-requires
 do-agree-requires c κs = search needs
 
 returns-2 : tie.Need-returns-2
+unfolding input channel-input
 returns-2 c =
-    let a = c .before .before .before .before .before .before .before .before .before .args in
-    let partner-of-call = c .before .before .before .before .partner-of in
-    let if1 = c .before .before .before .if1 in
-    let d = partner-of-call .ensures in
+    let test = c .before .before .before .before .before in
+    let a = test .before .before .before .before .before .before .args in
+    let d = test .before .partner-of .ensures in
     c .do-agree .ensures
     ∙ rw (c .before .before .is-input-step .ensures, c .before .is-input-step2 .ensures)
-    (sym (matched-some (a .s .now) (a .t2) (a .u .now) (a .r) (a .c) _ d (if1 .left)))
+    (sym (matched-some (a .s .now) (only (a .t2)) (a .u .now) (only (a .r)) (a .c) _ d (test .if1 .left)))
 
 pub is-matched-spec : {M : Type 1} → statement M
 is-matched-spec =

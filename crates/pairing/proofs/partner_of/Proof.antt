@@ -3,21 +3,22 @@ use borrow.Author.Needs.{needs}
 use native.Mathlib.Omega.{arith}
 use Prim.Native.Nat.{_+_, _-_, _≤_}
 use mathlib.Core.Path.{_≡_, sym, _∙_}
+use Rattle.pairing.specs.Only.{only}
 use Rattle.pairing.specs.Channels.{partner}
 use Rattle.pairing.specs.Laws.{seek, seek-begins, seek-finds, seek-goes, seek-ends}
 use Rattle.pairing.proofs.partner_of.Statement.{statement}
 use Rattle.pairing.proofs.partner_of.Tie as tie
 
 abbrev Inv-loop : tie.InvT-loop
-Inv-loop s name u r d₀ d = (1 ≤ d) × (d ≤ r .«channel_count» + 1) × (seek s name u r d ≡ partner s name u r)
+Inv-loop s name u r d₀ d = (1 ≤ d) × (d ≤ r .count + 1) × (seek s name u (only r) d ≡ partner s name u (only r))
 
 abbrev μ-loop : tie.MeasureT-loop
-μ-loop s name u r d₀ d = r .«channel_count» + 1 - d
+μ-loop s name u r d₀ d = r .count + 1 - d
 
 loop-holds : tie.Need-loop-holds Inv-loop μ-loop
 loop-holds c =
     let a = c .before .before .args in
-    (omega arith, omega arith, seek-begins (a .s .now) (a .name) (a .u .now) (a .t4))
+    (omega arith, omega arith, seek-begins (a .s .now) (a .name) (a .u .now) (only (a .t4)))
 
 sub-k : tie.Need-sub-k Inv-loop μ-loop
 sub-k c = search needs
@@ -26,7 +27,7 @@ mul-k : tie.Need-mul-k Inv-loop μ-loop
 mul-k c = search needs
 
 element-copy-out-k : tie.Need-element-copy-out-k Inv-loop μ-loop
-element-copy-out-k c = omega (arith, c .before .before .before .before .pre .channels)
+element-copy-out-k c = omega (arith, c .before .before .before .before .pre)
 
 is-same-requires : tie.Need-is-same-requires Inv-loop μ-loop
 is-same-requires c κs = search needs
@@ -35,14 +36,14 @@ returns : tie.Need-returns Inv-loop μ-loop
 returns c =
     let a = c .before .before .before .before .before .before .before .before .args in
     let loop = c .before .before .before .before .before .loop in
-    sym (seek-finds (a .s .now) (a .name) (a .u .now) (a .t4) _ (omega arith)
+    sym (seek-finds (a .s .now) (a .name) (a .u .now) (only (a .t4)) _ (omega arith)
     (sym (c .before .is-same .ensures) ∙ c .if1 .taken))
     ∙ loop .inv .2
 
 add-d : tie.Need-add-d Inv-loop μ-loop
 add-d c =
     let pre = c .before .before .before .before .before .before .before .before .pre in
-    omega (arith, pre .channels)
+    omega (arith, pre)
 
 loop-less : tie.Need-loop-less Inv-loop μ-loop
 loop-less c = search needs
@@ -54,14 +55,14 @@ loop-again c =
     let no = sym (c .before .is-same .ensures) ∙ c .if1 .left in (
       omega arith,
       omega arith,
-      sym (seek-goes (a .s .now) (a .name) (a .u .now) (a .t4) (l .d) (omega arith) no)
+      sym (seek-goes (a .s .now) (a .name) (a .u .now) (only (a .t4)) (l .d) (omega arith) no)
           ∙ l .inv .2,
     )
 
 returns-2 : tie.Need-returns-2 Inv-loop μ-loop
 returns-2 c =
     let a = c .before .before .before .before .args in
-    sym (seek-ends (a .s .now) (a .name) (a .u .now) (a .t4) _ (omega arith)) ∙ c .before .loop .inv .2
+    sym (seek-ends (a .s .now) (a .name) (a .u .now) (only (a .t4)) _ (omega arith)) ∙ c .before .loop .inv .2
 
 pub partner-of-spec : {M : Type 1} → statement M
 partner-of-spec =

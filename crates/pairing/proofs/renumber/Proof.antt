@@ -1,94 +1,69 @@
--- `renumber` writes the table entry by entry: the first p entries are those of `renumbered`.
+-- `renumber` writes the table row by row: the first rows are those of `renumbered`, the others still as they were.
 use borrow.Author.Needs.{needs}
 use native.Mathlib.Omega.{arith}
-use Prim.Native.Nat.{ℕ, _-_, _≤_}
+use Prim.Native.Nat.{ℕ, _-_, _*_, _≤_}
 use mathlib.Core.Path.{_≡_, refl, sym, _∙_, ap}
-use lib.ListN.{length, length-set}
-use Rattle.clocks_bits.specs.Bits.{written, written-none, written-more}
-use Rattle.pairing.specs.Laws.{column, place-in}
-use Rattle.pairing.specs.Table.{renumbered}
+use lib.ListN.{length}
+use Rattle.clocks_bits.specs.Bits.{written, written-none}
+use Rattle.pairing.specs.Laws.{row-there, rows-more}
+use Rattle.pairing.specs.Table.{renumbered, Row-there}
 use Rattle.pairing.proofs.renumber.Statement.{statement}
 use Rattle.pairing.proofs.renumber.Tie as tie
 
 abbrev Inv-loop : tie.InvT-loop
-Inv-loop src dst₀ n right-width left-width map size p₀ dst p =
-    (p ≤ size) × (length dst ≡ length dst₀) × (dst ≡ written (renumbered src map right-width left-width) p dst₀)
+Inv-loop moves₀ map n width row₀ moves row =
+    (row ≤ n) × (length moves ≡ length moves₀)
+    × (moves ≡ written (renumbered moves₀ map width width) (row * width) moves₀)
 
 abbrev μ-loop : tie.MeasureT-loop
-μ-loop src dst₀ n right-width left-width map size p₀ dst p = size - p
-
-mul-size : tie.Need-mul-size Inv-loop μ-loop
-mul-size c = search needs
+μ-loop moves₀ map n width row₀ moves row = n - row
 
 loop-holds : tie.Need-loop-holds Inv-loop μ-loop
-loop-holds c = (omega arith, refl, sym (written-none _ _))
+loop-holds c =
+    let a = c .before .args in
+    let f = renumbered (a .moves .now) (a .map) (a .width) (a .width) in
+    let none : 0 ≡ 0 * a .width = omega arith in
+    (omega arith, refl, sym (written-none _ _) ∙ ap (λ (k : ℕ). written f k (a .moves .now)) none)
 
-div-row : tie.Need-div-row Inv-loop μ-loop
-div-row c = search needs
+-- a row that is there
+here : (c : tie.After-renumber-row-arg Inv-loop μ-loop) →
+    let a = c .before .before .before .before .args in
+    Row-there (length (a .moves .now)) (c .before .before .loop .row * a .width) (a .width)
+here c = row-there (c .before .before .before .before .pre) (c .before .before .loop .row) (c .before .loop-test .taken)
 
-rem-c : tie.Need-rem-c Inv-loop μ-loop
-rem-c c = search needs
+mul-renumber-row : tie.Need-mul-renumber-row Inv-loop μ-loop
+mul-renumber-row c = omega (arith, here c .low)
 
-mul-d : tie.Need-mul-d Inv-loop μ-loop
-mul-d c =
-    let pre = c .before .before .pre in
-    omega (arith, column (pre) (c .before .loop .p) (c .loop-test .taken), pre .few)
+renumber-row-requires : tie.Need-renumber-row-requires Inv-loop μ-loop
+renumber-row-requires c κs =
+    let pre = c .before .before .before .before .pre in
+    (rw (c .before .before .loop .inv .1) (here c), pre .steps)
 
-array-read-d : tie.Need-array-read-d Inv-loop μ-loop
-array-read-d c =
-    let pre = c .before .before .pre in
-    omega (arith, column (pre) (c .before .loop .p) (c .loop-test .taken), pre .few)
-
-mul-dst : tie.Need-mul-dst Inv-loop μ-loop
-mul-dst c =
-    let pre = c .before .before .pre in
-    omega (arith, place-in (pre) (c .before .loop .p) (c .loop-test .taken), pre .long)
-
-add-dst : tie.Need-add-dst Inv-loop μ-loop
-add-dst c =
-    let pre = c .before .before .pre in
-    omega (arith, place-in (pre) (c .before .loop .p) (c .loop-test .taken), pre .long)
-
-mul-dst-2 : tie.Need-mul-dst-2 Inv-loop μ-loop
-mul-dst-2 c =
-    let pre = c .before .before .pre in
-    omega (arith, place-in (pre) (c .before .loop .p) (c .loop-test .taken), pre .long)
-
-shared-slice-read-dst : tie.Need-shared-slice-read-dst Inv-loop μ-loop
-shared-slice-read-dst c =
-    let b = c .before .before .before .pre in
-    omega (arith, place-in b (c .before .before .loop .p) (c .before .loop-test .taken), b .long)
-
-mul-dst-3 : tie.Need-mul-dst-3 Inv-loop μ-loop
-mul-dst-3 c = search needs
-
-slice-write-dst : tie.Need-slice-write-dst Inv-loop μ-loop
-slice-write-dst c = search needs
-
-add-p : tie.Need-add-p Inv-loop μ-loop
-add-p c = search needs
+add-row : tie.Need-add-row Inv-loop μ-loop
+add-row c = search needs
 
 loop-less : tie.Need-loop-less Inv-loop μ-loop
 loop-less c = search needs
 
 loop-again : tie.Need-loop-again Inv-loop μ-loop
-unfolding renumbered
 loop-again c =
-    let args = c .before .before .before .args in
-    let pre = c .before .before .before .pre in
-    let l = c .before .before .loop in
-    let d = args .dst .now in
-    let more = written-more _ (l .p) d _ (omega (arith, pre .room)) refl in
-    (omega arith, simp length-set (l .inv .1), rw (l .inv .2) more)
+    let call = c .before .before in
+    let test = call .before .before in
+    let loop = test .before .loop in
+    let start = test .before .before .before in
+    let done = rows-more (start .pre) (loop .row) (test .loop-test .taken) _ _ _ refl (loop .inv .2)
+    (call .renumber-row .ensures) in
+    (omega arith, search needs, done)
 
 same-length : tie.Need-same-length Inv-loop μ-loop
 same-length c = search needs
 
 returns : tie.Need-returns Inv-loop μ-loop
 returns c =
-    let a = c .before .before .args in
-    let f = renumbered (a .src .now) (a .t2) (a .right-width) (a .left-width) in
-    c .before .loop .inv .2 ∙ ap (λ (k : ℕ). written f k (a .dst .now)) (omega arith)
+    let a = c .before .before .before .args in
+    let f = renumbered (a .moves .now) (a .map) (a .width) (a .width) in
+    let all : c .before .loop .row ≡ a .n = omega arith in
+    c .before .loop .inv .2 ∙ ap (λ (k : ℕ). written f (k * a .width) (a .moves .now)) all
 
 pub renumber-spec : {M : Type 1} → statement M
 renumber-spec =
@@ -96,19 +71,10 @@ renumber-spec =
     (tie.spec
     Inv-loop
     μ-loop
-    mul-size
     loop-holds
-    div-row
-    rem-c
-    mul-d
-    array-read-d
-    mul-dst
-    add-dst
-    mul-dst-2
-    shared-slice-read-dst
-    mul-dst-3
-    slice-write-dst
-    add-p
+    mul-renumber-row
+    renumber-row-requires
+    add-row
     loop-less
     loop-again
     same-length

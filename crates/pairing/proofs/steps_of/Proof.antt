@@ -5,13 +5,14 @@ use Prim.Native.Nat.{_-_, _≤_}
 use mathlib.Core.Path.{_≡_, sym, _∙_}
 use lib.ListN.{replicate}
 use Rattle.clocks_bits.specs.Bits.{written, written-none, written-more}
+use Rattle.pairing.specs.Only.{only}
 use Rattle.pairing.specs.Channels.{right-step, most-steps}
 use Rattle.pairing.specs.Laws.{written-whole}
 use Rattle.pairing.proofs.steps_of.Statement.{statement}
 use Rattle.pairing.proofs.steps_of.Tie as tie
 
 abbrev Inv-loop : tie.InvT-loop
-Inv-loop s l u r map₀ c₀ map c = (c ≤ most-steps) × (map ≡ written (right-step s l u r) c (replicate most-steps 0))
+Inv-loop s l u r map₀ c₀ map c = (c ≤ most-steps) × (map ≡ written (right-step s (only l) u (only r)) c (replicate most-steps 0))
 
 abbrev μ-loop : tie.MeasureT-loop
 μ-loop s l u r map₀ c₀ map c = most-steps - c
@@ -38,14 +39,14 @@ loop-again : tie.Need-loop-again Inv-loop μ-loop
 loop-again c =
     let a = c .before .before .before .before .before .args in
     let loop = c .before .before .loop in
-    let f = right-step (a .s .now) (a .l) (a .u .now) (a .r) in
+    let f = right-step (a .s .now) (only (a .l)) (a .u .now) (only (a .r)) in
     let more = written-more f (loop .c) (replicate most-steps 0) _ (omega arith) (c .step-of .ensures) in
     (omega arith, rw (loop .inv .1) more)
 
 returns : tie.Need-returns Inv-loop μ-loop
 returns c =
     let a = c .before .before .before .before .args in
-    let f = right-step (a .s .now) (a .l) (a .u .now) (a .r) in
+    let f = right-step (a .s .now) (only (a .l)) (a .u .now) (only (a .r)) in
     c .before .loop .inv .1 ∙ written-whole f (c .before .loop .c) (omega arith)
 
 pub steps-of-spec : {M : Type 1} → statement M

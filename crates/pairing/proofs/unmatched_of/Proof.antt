@@ -5,21 +5,22 @@ use borrow.Author.Tests.{not-true, not-false}
 use native.Mathlib.Omega.{arith}
 use Prim.Native.Nat.{_+_, _-_, _≤_}
 use mathlib.Core.Path.{_≡_, sym, _∙_}
+use Rattle.pairing.specs.Only.{only}
 use Rattle.pairing.specs.Channels.{first-unmatched}
 use Rattle.pairing.specs.Laws.{judge, judge-begins, judge-finds, judge-goes, judge-ends}
 use Rattle.pairing.proofs.unmatched_of.Statement.{statement}
 use Rattle.pairing.proofs.unmatched_of.Tie as tie
 
 abbrev Inv-loop : tie.InvT-loop
-Inv-loop s l u r c₀ c = (1 ≤ c) × (c ≤ l .«channel_count» + 1) × (judge s l u r c ≡ first-unmatched s l u r)
+Inv-loop s l u r c₀ c = (1 ≤ c) × (c ≤ l .count + 1) × (judge s (only l) u (only r) c ≡ first-unmatched s (only l) u (only r))
 
 abbrev μ-loop : tie.MeasureT-loop
-μ-loop s l u r c₀ c = l .«channel_count» + 1 - c
+μ-loop s l u r c₀ c = l .count + 1 - c
 
 loop-holds : tie.Need-loop-holds Inv-loop μ-loop
 loop-holds c =
     let a = c .before .before .args in
-    (omega arith, omega arith, judge-begins (a .s .now) (a .l) (a .u .now) (a .r))
+    (omega arith, omega arith, judge-begins (a .s .now) (only (a .l)) (a .u .now) (only (a .r)))
 
 is-matched-requires : tie.Need-is-matched-requires Inv-loop μ-loop
 is-matched-requires c κs =
@@ -32,10 +33,10 @@ returns c =
     let loop = c .before .before .before .before .loop in
     let is-matched-call = c .before .is-matched in
     let no = sym (is-matched-call .ensures) ∙ not-true (is-matched-call .result) (c .if2 .taken) in
-    sym (judge-finds (a .s .now) (a .l) (a .u .now) (a .r) _ (omega arith) no) ∙ loop .inv .2
+    sym (judge-finds (a .s .now) (only (a .l)) (a .u .now) (only (a .r)) _ (omega arith) no) ∙ loop .inv .2
 
 add-c : tie.Need-add-c Inv-loop μ-loop
-add-c c = omega (arith, c .before .before .before .before .before .before .before .pre .0 .channels)
+add-c c = omega (arith, c .before .before .before .before .before .before .before .pre .0)
 
 loop-less : tie.Need-loop-less Inv-loop μ-loop
 loop-less c = search needs
@@ -48,14 +49,14 @@ loop-again c =
     let yes = sym (is-matched-call .ensures) ∙ not-false (is-matched-call .result) (c .if2 .left) in (
       omega arith,
       omega arith,
-      sym (judge-goes (a .s .now) (a .l) (a .u .now) (a .r) (i .c) (omega arith) yes)
+      sym (judge-goes (a .s .now) (only (a .l)) (a .u .now) (only (a .r)) (i .c) (omega arith) yes)
           ∙ i .inv .2,
     )
 
 returns-2 : tie.Need-returns-2 Inv-loop μ-loop
 returns-2 c =
     let a = c .before .before .before .before .before .args in
-    sym (judge-ends (a .s .now) (a .l) (a .u .now) (a .r) _ (omega arith)) ∙ c .before .before .loop .inv .2
+    sym (judge-ends (a .s .now) (only (a .l)) (a .u .now) (only (a .r)) _ (omega arith)) ∙ c .before .before .loop .inv .2
 
 pub unmatched-of-spec : {M : Type 1} → statement M
 unmatched-of-spec =

@@ -1,66 +1,71 @@
 use borrow.Author.Needs.{needs}
-use mathlib.Core.Path.{ap}
+use mathlib.Core.Path.{_≡_, ap}
 use native.Mathlib.Omega.{arith}
 use lib.ListN.{length}
 use Rattle.clocks_bits.specs.Bits.{length-tab}
 use Rattle.safe_states.specs.Paths.{ready-bounded, ready-bitmap, ready-few, ready-safe, ready-start, ready-found}
-use Rattle.clocks.specs.States.{input}
+use Rattle.clocks.specs.States.{start-state, input}
+use Rattle.clocks_states.specs.Parts.{start-fits, start-done, inputs-done}
 use Rattle.safe_states.proofs.found.Statement.{statement}
 use Rattle.safe_states.proofs.found.Tie as tie
 
 inputs-of-requires : tie.Need-inputs-of-requires
-inputs-of-requires c κs = search needs
+inputs-of-requires c κs = c .before .before .before .before .pre .accepted .formed .channels
 
 add-steps : tie.Need-add-steps
-add-steps c = search needs
+add-steps c = omega (arith, c .before .before .before .before .before .before .pre .accepted .formed .channels)
 
 slice-aggregate-safe : tie.Need-slice-aggregate-safe
 slice-aggregate-safe c = search needs
 
 safe-requires : tie.Need-safe-requires
 safe-requires c κs =
-    let args = c .before .before .before .before .before .before .before .args in
-    let pre = c .before .before .before .before .before .before .before .pre in
-    let inputs-of-call = c .before .before .before .inputs-of in (
+    let args = c .before .before .before .before .before .before .before .before .args in
+    let pre = c .before .before .before .before .before .before .before .before .pre in
+    let inputs = inputs-done (args .t) _ (c .before .before .before .inputs-of .ensures) in (
       ready-bounded (pre),
       (
-        omega (
-          arith,
-          pre .accepted .formed .channels,
-          ap length (inputs-of-call .ensures),
-          length-tab (input (args .t)) 0 17,
-        ),
+        omega (arith, pre .accepted .formed .channels, ap length inputs, length-tab (input (args .t)) 0 17),
         (ready-bitmap (pre), omega (arith, pre .long, pre .count)),
       ),
     )
 
 start-of-requires : tie.Need-start-of-requires
 start-of-requires c κs =
-    let pre = c .before .before .before .before .before .before .before .before .before .before .pre in
-    (pre .accepted .formed, ready-few (pre))
+    let args = c .before .before .before .before .before .before .before .before .before .before .before .args in
+    let pre = c .before .before .before .before .before .before .before .before .before .before .before .pre in
+    let fits = start-fits (args .t) (pre .accepted .formed) in
+    (fits .0, fits .1, omega (arith, pre .count, ready-few pre))
+
+-- the start's number
+starts : (c : tie.After-start-of) → c .start-of .result ≡ start-state (c .before .before .before .before .before .before .before .before .before .before .before .before .args .t)
+starts c =
+    let start = c .before .before .before .before .before .before .before .before .before .before .before .before in
+    start-done (start .args .t) (start .pre .accepted .formed) _ _ (start .pre .count) (c .start-of .ensures)
 
 get-requires : tie.Need-get-requires
 get-requires c κs =
-    let pre = c .before .before .before .before .before .before .before .before .before .before .before .before .pre in
-    let inputs-of-call = c .before .before .before .before .before .before .before .before .inputs-of in
-    let safe-call = c .before .before .before .before .safe in
-    ready-start (pre) _ (ready-safe (pre) (inputs-of-call .result) _ (safe-call .result) (inputs-of-call .ensures)
-    (safe-call .ensures) .0) _ (c .before .start-of .ensures)
+    let calls = c .before .before .before .before in
+    let reads = calls .before .before .before .before in
+    let start = reads .before .before .before .before .before in
+    let inputs = inputs-done (start .args .t) _ (reads .inputs-of .ensures) in
+    let kept = ready-safe (start .pre) (reads .inputs-of .result) _ (calls .safe .result) inputs (calls .safe .ensures)
+    in
+    ready-start (start .pre) _ (kept .0) _ (starts (c .before))
 
 same-length : tie.Need-same-length
 same-length c = search needs
 
 returns : tie.Need-returns
 returns c =
-    let pre = c .before .before .before .before .before .before .before .before .before .before .before .before .before
-    .pre in
-    let inputs-of-call = c .before .before .before .before .before .before .before .before .before .inputs-of in
-    let safe-call = c .before .before .before .before .before .safe in
-    let start-of-call = c .before .before .start-of in
-    ready-found (pre) _ (ready-safe (pre) (inputs-of-call .result) _ (safe-call .result) (inputs-of-call .ensures)
-    (safe-call .ensures) .0) (start-of-call .result) (safe-call .result) (c .get .result) (start-of-call .ensures)
-    (ready-safe (pre) (inputs-of-call .result) _ (safe-call .result) (inputs-of-call .ensures) (safe-call .ensures)
-    .1) (c .get .ensures)
+    let calls = c .before .before .before .before .before in
+    let reads = calls .before .before .before .before in
+    let start = reads .before .before .before .before .before in
+    let inputs = inputs-done (start .args .t) _ (reads .inputs-of .ensures) in
+    let kept = ready-safe (start .pre) (reads .inputs-of .result) _ (calls .safe .result) inputs (calls .safe .ensures)
+    in
+    ready-found (start .pre) _ (kept .0) (c .before .before .start-of .result) (calls .safe .result) (c .get .result)
+    (starts (c .before .before)) (kept .1) (c .get .ensures)
 
 pub found-spec : {M : Type 1} → statement M
 found-spec =

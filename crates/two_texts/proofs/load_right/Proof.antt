@@ -1,15 +1,8 @@
 -- Codes 2 to 11 of the right, then what pairing promises: one law of Paths.antt a path.
 use borrow.Author.Needs.{needs}
-use native.Mathlib.Omega.{arith}
 use Rattle.two_texts.specs.Paths.{loaded-reading, loaded-long, right-refused, right-paired}
 use Rattle.two_texts.proofs.load_right.Statement.{statement}
 use Rattle.two_texts.proofs.load_right.Tie as tie
-
-no-moves-requires : tie.Need-no-moves-requires
-no-moves-requires c κs = search needs
-
-slice-aggregate-load : tie.Need-slice-aggregate-load
-slice-aggregate-load c = search needs
 
 load-requires : tie.Need-load-requires
 load-requires c κs = search needs
@@ -26,68 +19,63 @@ refused-requires c κs = search needs
 enum-told : tie.Need-enum-told
 enum-told c = search needs
 
-slice-aggregate-paired : tie.Need-slice-aggregate-paired
-slice-aggregate-paired c = search needs
-
 paired-requires : tie.Need-paired-requires
 paired-requires c κs =
-    let told = c .before .before in
-    let loads = told .before .before .before .before .before in
-    let table = loads .before .before .before in
-    let start = table .before .before .before .before .before in (
+    let told = c .before in
+    let loads = told .before .before .before .before .before .before in
+    let start = loads .before .before .before .before .before .before .before in (
       start .pre .0,
       loaded-reading (start .args .right .now) _ _ (loads .load .result) _ _ (loads .load .ensures)
           (told .enum-told .given .1),
       loaded-long (start .args .right .now) _ _ (loads .load .result) _ _ (loads .load .ensures)
-          (told .enum-told .given .1) (omega (arith, table .no-moves .ensures)),
-      start .pre .1,
+          (told .enum-told .given .1) (start .pre .1),
     )
 
 same-length : tie.Need-same-length
 same-length c = search needs
 
+same-length-2 : tie.Need-same-length-2
+same-length-2 c = search needs
+
 returns : tie.Need-returns
 returns c =
     let marks = c .before in
     let told = marks .before .before in
-    let loads = told .before .before .before .before .before in
-    let start = loads .before .before .before .before .before .before .before .before in
+    let loads = told .before .before .before .before .before .before in
+    let start = loads .before .before .before .before .before .before .before in
     right-refused (start .args .left .now) (start .args .l) (start .pre .0) (start .args .right .now) _ _
     (loads .load .result) _ _ (loads .load .ensures) _ _ _ _ (told .answer .given .1) (marks .in-file .ensures)
     (c .refused .ensures)
 
-same-length-2 : tie.Need-same-length-2
-same-length-2 c = search needs
-
 same-length-3 : tie.Need-same-length-3
 same-length-3 c = search needs
+
+same-length-4 : tie.Need-same-length-4
+same-length-4 c = search needs
 
 returns-2 : tie.Need-returns-2
 returns-2 c =
     let ends = c .before .before in
-    let told = ends .before .before .before in
-    let loads = told .before .before .before .before .before in
-    let table = loads .before .before .before in
-    let start = table .before .before .before .before .before in
+    let told = ends .before .before in
+    let loads = told .before .before .before .before .before .before in
+    let start = loads .before .before .before .before .before .before .before in
     right-paired (start .args .left .now) (start .args .l) (start .pre .0) (start .args .right .now) _ _
-    (loads .load .result) _ _ (loads .load .ensures) _ _ _ (told .enum-told .given .1)
-    (omega (arith, table .no-moves .ensures)) (start .pre .1) (start .pre .2) (ends .paired .ensures)
+    (loads .load .result) _ _ (loads .load .ensures) _ _ (told .enum-told .given .1) (start .pre .1) (start .pre .2)
+    (ends .paired .ensures)
 
 pub load-right-spec : {M : Type 1} → statement M
 load-right-spec =
     tie.close
     (tie.spec
-    no-moves-requires
-    slice-aggregate-load
     load-requires
     enum-known-answer
     in-file-requires
     refused-requires
     enum-told
-    slice-aggregate-paired
     paired-requires
     same-length
-    returns
     same-length-2
+    returns
     same-length-3
+    same-length-4
     returns-2)

@@ -7,7 +7,7 @@ use Rattle.two_texts.proofs.paired.Tie as tie
 
 pair-channels-requires : tie.Need-pair-channels-requires
 pair-channels-requires c κs =
-    let start = c .before .before .before .before .before .before in (
+    let start = c .before .before .before .before .before in (
       reading-formed (start .args .left .now) (start .args .l) (start .pre .0),
       reading-formed (start .args .right .now) (start .args .r) (start .pre .1),
     )
@@ -21,31 +21,24 @@ refused-requires c κs = search needs
 enum-told : tie.Need-enum-told
 enum-told c = search needs
 
-add-right-width : tie.Need-add-right-width
-add-right-width c =
-    let start = c .before .before .before .before .before .before .before .before .before .before .before in
-    omega (arith, reading-formed (start .args .right .now) (start .args .r) (start .pre .1) .channels)
-
-add-left-width : tie.Need-add-left-width
-add-left-width c =
-    let start = c .before .before .before .before .before .before .before .before .before .before .before .before
-    in
+add-width : tie.Need-add-width
+add-width c =
+    let start = c .before .before .before .before .before .before .before .before .before .before in
     omega (arith, reading-formed (start .args .left .now) (start .args .l) (start .pre .0) .channels)
 
 renumber-requires : tie.Need-renumber-requires
 renumber-requires c κs =
-    let told = c .before .before .before .before in
+    let told = c .before .before .before in
     let pairs = told .before .before in
-    let start = pairs .before .before .before .before .before .before .before in
+    let start = pairs .before .before .before .before .before .before in
     paired-renumbers (start .args .left .now) (start .args .l) (start .args .right .now) (start .args .r)
     (start .pre .0) (start .pre .1) (pairs .pair-channels .result) (pairs .pair-channels .ensures)
-    (told .enum-told .given .1) (start .args .own .now) (start .args .moves .now) (start .pre .2)
-    (start .pre .3)
+    (told .enum-told .given .1) (start .args .moves .now) (start .pre .2)
 
 accepted-requires : tie.Need-accepted-requires
 accepted-requires c κs =
     let later = c .before .before .before .before .before .before .before .before in
-    let start = later .before .before .before .before .before .before .before .before in (
+    let start = later .before .before .before .before .before .before in (
       reading-sized (start .args .left .now) (start .args .l) (start .pre .0),
       reading-sized (start .args .right .now) (start .args .r) (start .pre .1),
     )
@@ -54,9 +47,9 @@ returns : tie.Need-returns
 returns c =
     let told = c .before .before in
     let pairs = told .before .before in
-    let start = pairs .before .before .before .before .before .before .before in
+    let start = pairs .before .before .before .before .before .before in
     paired-refused (start .args .left .now) (start .args .l) (start .args .right .now) (start .args .r)
-    (start .pre .0) (start .pre .1) (pairs .pair-channels .result) (pairs .pair-channels .ensures) _ _ _ _
+    (start .pre .0) (start .pre .1) (pairs .pair-channels .result) (pairs .pair-channels .ensures) _ _ _
     (told .answer .given .1) (c .refused .ensures)
 
 same-length : tie.Need-same-length
@@ -65,12 +58,12 @@ same-length c = search needs
 returns-2 : tie.Need-returns-2
 returns-2 c =
     let writes = c .before .before .before in
-    let told = writes .before .before .before .before .before in
+    let told = writes .before .before .before .before in
     let pairs = told .before .before in
-    let start = pairs .before .before .before .before .before .before .before in
+    let start = pairs .before .before .before .before .before .before in
     paired-accepted (start .args .left .now) (start .args .l) (start .args .right .now) (start .args .r)
     (start .pre .0) (start .pre .1) (pairs .pair-channels .result) (pairs .pair-channels .ensures)
-    (told .enum-told .given .1) _ _ _ _ (writes .renumber .ensures) (c .accepted .ensures)
+    (told .enum-told .given .1) _ _ _ (writes .renumber .ensures) (c .accepted .ensures)
 
 pub paired-spec : {M : Type 1} → statement M
 paired-spec =
@@ -80,8 +73,7 @@ paired-spec =
     enum-known-answer
     refused-requires
     enum-told
-    add-right-width
-    add-left-width
+    add-width
     renumber-requires
     accepted-requires
     returns

@@ -1,0 +1,4 @@
+pub mod Marks
+pub mod Blocks
+pub mod Rows
+pub mod Runs
