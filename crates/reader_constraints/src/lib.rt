@@ -134,11 +134,13 @@ fn comparison(
     let read = sign_next(s, after_clock, invariant);
     let after_sign = read.status;
     let bound = constant(s, after_sign);
+    let number = clock.number as u8;
     let sign = read.sign;
+    let value = bound.value as u16;
     let made = Comparison {
-        clock: clock.number,
+        clock: number,
         sign: sign,
-        bound: bound.value,
+        bound: value,
     };
     let end = bound.status;
     ComparisonRead {

@@ -5,13 +5,11 @@ use mathlib.Core.Bool.{Bool, true, false}
 use mathlib.Core.List.{List}
 use Prim.Native.Nat.{ℕ, zero, suc, _+_, _≤_, _<_}
 use native.Mathlib.Omega.{arith}
-use lib.Dec.{eqb, ltb}
-use lib.ListN.{length, drop, length-set}
-use borrow.Author.Tests.{ltb-false}
+use lib.Dec.{eqb}
+use lib.ListN.{length, length-set}
 use Rattle.reader_record.specs.Limits.{clock-limit, comparison-limit, largest-constant}
 use Rattle.reader_parts.specs.Slots.{first-clock}
 use Rattle.reader_tokens.specs.Kinds as kinds
-use Rattle.reader_tokens.specs.Scan.{value}
 use Rattle.reader_tokens.specs.Tokens.{token-at}
 use Rattle.reader_tokens.specs.declared.Token.{Token}
 use Rattle.reader_record.specs.declared.Name.{Name}
@@ -26,7 +24,8 @@ use Rattle.reader_constraints.specs.declared.Amount.{Amount}
 use Rattle.reader_constraints.specs.declared.SignRead.{SignRead}
 use Rattle.reader_constraints.specs.declared.ComparisonRead.{ComparisonRead}
 use Rattle.reader_constraints.specs.declared.ConstraintRead.{ConstraintRead}
-use Rattle.reader_constraints.specs.Constraints.{constant-of, constant, sign-of, sign-next, comparison, no-constraint, with-comparison, constraint-from, constraint, guard, invariant}
+use Rattle.reader_constraints.specs.Facts.{constant-small}
+use Rattle.reader_constraints.specs.Constraints.{constant, sign-of, sign-next, comparison, no-constraint, with-comparison, constraint-from, constraint, guard, invariant}
 use Rattle.reader_formed.specs.Cases.{split, either, never, stored}
 use Rattle.reader_formed.specs.Going.{Going, take-going}
 use Rattle.reader_formed.specs.Declared.{used}
@@ -37,21 +36,9 @@ record Constant (st : Status) (a : Amount) : Type 0 where
   before : Going st
   bound : a .value ≤ largest-constant
 
-of-constant : (s : List ℕ) (t : Token) → Going (constant-of s t .status) → constant-of s t .value ≤ largest-constant
-unfolding constant-of
-of-constant s t =
-    split P (eqb (t .kind) kinds.numeral)
-    (λ _. split P (ltb largest-constant (value 0 (drop (t .place) s)))
-    (λ _ g. absurd g)
-    (λ l _. ltb-false largest-constant (value 0 (drop (t .place) s)) l))
-    (λ _ g. absurd g)
-  where
-    P : Amount → Type 0
-    P a = Going (a .status) → a .value ≤ largest-constant
-
 constant-read : (s : List ℕ) (st : Status) → Going (constant s st .status) → Constant st (constant s st)
 unfolding constant
-constant-read s (At p) g = record { before = tt; bound = of-constant s (token-at s p) g }
+constant-read s (At p) g = record { before = tt; bound = constant-small s (At p) }
 constant-read s (Refused f) g = absurd g
 
 -- a sign that is read

@@ -111,7 +111,7 @@ fn write_comparison(out: &mut [usize], at: usize, c: Comparison)
 {
     let s = c.sign;
     let sign = sign_number(s);
-    put_three(out, at, c.clock, sign, c.bound);
+    put_three(out, at, c.clock as usize, sign, c.bound as usize);
 }
 
 // The number of comparisons, then four of them.

@@ -54,10 +54,10 @@ fn sign(s: Sign) {
 }
 
 fn comparison(c: Comparison) {
-    put(c.clock);
+    put(c.clock as usize);
     let s = c.sign;
     sign(s);
-    put(c.bound);
+    put(c.bound as usize);
 }
 
 // The comparison number i of a constraint that has it.

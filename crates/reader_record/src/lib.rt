@@ -42,11 +42,12 @@ pub enum Sign {
     Equal,
 }
 
-// A clock, by its number from 0, a sign and a constant.
+// A clock, by its number from 0, a sign and a constant. There are 640 of them in a record, which is passed by value: they
+// are kept short.
 pub struct Comparison {
-    pub clock: usize,
+    pub clock: u8,
     pub sign: Sign,
-    pub bound: usize,
+    pub bound: u16,
 }
 
 // A guard or an invariant: all of the first `count` comparisons.

@@ -1,7 +1,9 @@
--- `comparison` is `comparison`, by the contracts of its three parts.
+-- `comparison` is `comparison`, by the contracts of its three parts; its numbers are small.
 use borrow.Author.Needs.{needs}
 use mathlib.Core.Path.{sym}
+use native.Mathlib.Omega.{arith}
 use Rattle.reader_constraints.specs.Constraints.{constant, comparison}
+use Rattle.reader_constraints.specs.Facts.{clock-small, amount-small}
 use Rattle.reader_constraints.proofs.comparison.Statement.{statement}
 use Rattle.reader_constraints.proofs.comparison.Tie as tie
 
@@ -14,15 +16,23 @@ sign-next-requires c κs = search needs
 constant-requires : tie.Need-constant-requires
 constant-requires c κs = search needs
 
+cast-number : tie.Need-cast-number
+cast-number c = omega (arith, clock-small _ _ _ _ _ (c .before .before .before .use-name .ensures))
+
+cast-value : tie.Need-cast-value
+cast-value c = omega (arith, amount-small _ _ _ (c .before .before .constant .ensures))
+
 returns : tie.Need-returns
 unfolding comparison
-returns c = rw (
-  sym (c .before .before .use-name .ensures),
-  sym (c .before .sign-next .ensures),
-  sym
-      (c .constant .ensures),
-)
+returns c =
+    let reads = c .before .before in
+    rw (
+      sym (reads .before .before .use-name .ensures),
+      sym (reads .before .sign-next .ensures),
+      sym (reads .constant .ensures),
+    )
 
 pub comparison-spec : {M : Type 1} → statement M
 comparison-spec =
-    tie.close (tie.spec use-name-requires sign-next-requires constant-requires returns)
+    tie.close
+    (tie.spec use-name-requires sign-next-requires constant-requires cast-number cast-value returns)

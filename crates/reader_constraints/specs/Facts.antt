@@ -1,0 +1,52 @@
+-- The numbers of a comparison that is read are small, whether it is refused or not.
+use mathlib.Core.Path.{_≡_, refl}
+use mathlib.Core.Bool.{Bool, true, false, cond}
+use mathlib.Core.List.{List}
+use Prim.Native.Nat.{ℕ, _≤_, _<_}
+use native.Mathlib.Omega.{arith}
+use lib.Dec.{eqb, ltb}
+use lib.ListN.{drop}
+use borrow.Author.Tests.{ltb-false}
+use Rattle.reader_tokens.specs.Kinds as kinds
+use Rattle.reader_tokens.specs.Scan.{value}
+use Rattle.reader_tokens.specs.Tokens.{token-at}
+use Rattle.reader_tokens.specs.declared.Token.{Token}
+use Rattle.reader_record.specs.Limits.{clock-limit, largest-constant}
+use Rattle.reader_record.specs.declared.Name.{Name}
+use Rattle.reader_parts.specs.declared.Fault.the-variants.{Misfit, TooLarge}
+use Rattle.reader_parts.specs.declared.Status.{Status}
+use Rattle.reader_parts.specs.declared.Status.the-variants.{At, Refused}
+use Rattle.reader_parts.specs.declared.Use.{Use}
+use Rattle.reader_parts.specs.Facts.{use-small}
+use Rattle.reader_parts.specs.Names.{use-name}
+use Rattle.reader_parts.specs.Slots.{first-clock}
+use Rattle.reader_constraints.specs.declared.Amount.{Amount}
+use Rattle.reader_constraints.specs.Constraints.{no-amount, constant-of, constant}
+
+pub clock-small : (s : List ℕ) (st : Status) (names : List Name) (over : Bool) (u : Use) →
+    u ≡ use-name s st names first-clock clock-limit over → u .number < clock-limit
+clock-small s st names over u e = rw e (use-small s names first-clock clock-limit over (omega arith) st)
+
+constant-of-small : (s : List ℕ) (t : Token) → constant-of s t .value ≤ largest-constant
+unfolding constant-of
+constant-of-small s t = go (eqb (t .kind) kinds.numeral) (ltb largest-constant v) refl
+  where
+    v : ℕ
+    v = value 0 (drop (t .place) s)
+
+    read : Amount
+    read = record { status = At (t .end); value = v }
+
+    go : (b c : Bool) → ltb largest-constant v ≡ c →
+        cond b (cond c (no-amount (TooLarge (t .place))) read) (no-amount (Misfit (t .place))) .value ≤ largest-constant
+    go true true e = omega arith
+    go true false e = ltb-false largest-constant v e
+    go false c e = omega arith
+
+pub constant-small : (s : List ℕ) (st : Status) → constant s st .value ≤ largest-constant
+unfolding constant
+constant-small s (At p) = constant-of-small s (token-at s p)
+constant-small s (Refused f) = omega arith
+
+pub amount-small : (s : List ℕ) (st : Status) (a : Amount) → a ≡ constant s st → a .value ≤ largest-constant
+amount-small s st a e = rw e (constant-small s st)
