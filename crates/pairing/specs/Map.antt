@@ -1,20 +1,17 @@
--- What the map holds, and what the renumbered table holds.
+-- What the map holds.
 use mathlib.Core.Path.{_≡_, ap, _∙_}
 use mathlib.Core.Bool.{_&&_}
 use lib.Dec.{ltb, leb}
 use mathlib.Core.List.{List}
-use Prim.Native.Nat.{ℕ, _+_, _*_, _≤_, _<_}
+use Prim.Native.Nat.{ℕ, _+_, _≤_, _<_}
 use native.Mathlib.Nat.{zero-add}
 use native.Mathlib.Omega.{arith}
-use lib.Arith.{digits-div, digits-mod}
 use lib.ListN.{getD}
 use Rattle.reader_record.specs.declared.Text.{Text}
-use Rattle.reader_record.specs.Formed.{Well-formed}
 use Rattle.reader_formed.specs.Cases.{either, when-equal}
 use Rattle.clocks_bits.specs.Bits.{tab-at}
 use Rattle.pairing.specs.Channels.{name-of, alike, partner, right-step, pairing, most-steps}
 use Rattle.pairing.specs.Lowest.{lowest-found}
-use Rattle.pairing.specs.Table.{renumbered}
 
 module _ (s : List ℕ) (l : Text) (u : List ℕ) (r : Text) where
   partner-below : (c : ℕ) → partner s (name-of l c) u r ≤ r .«channel_count»
@@ -39,7 +36,3 @@ module _ (s : List ℕ) (l : Text) (u : List ℕ) (r : Text) where
   pub map-at : (c : ℕ) → c < most-steps → getD (pairing s l u r .map) c 0 ≡ right-step s l u r c
   unfolding pairing
   map-at c h = tab-at (right-step s l u r) 0 0 most-steps c h ∙ ap (right-step s l u r) (zero-add c)
-
-  pub map-below : Well-formed l → (c : ℕ) → c < l .«channel_count» + 1 → getD (pairing s l u r .map) c 0
-      < r .«channel_count» + 1
-  map-below w c h = rw (map-at c (omega (arith, w .channels))) (step-below c)
