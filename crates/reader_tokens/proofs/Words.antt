@@ -2,7 +2,7 @@
 use mathlib.Core.Path.{_≡_, refl, sym, ap}
 use mathlib.Core.Bool.{Bool, true, false}
 use mathlib.Core.List.{List, [], _∷_, _++_, map, flatten}
-use Prim.Native.Nat.{ℕ, suc, _+_, _≤_, _<_}
+use Prim.Native.Nat.{ℕ, zero, suc, _+_, _≤_, _<_}
 use native.Mathlib.Numerals.{add-one}
 use native.Mathlib.Omega.{arith}
 use lib.Dec.{eqb}
@@ -11,7 +11,7 @@ use lib.Seq.{drop-cons, drop-drop, drop-append-seam}
 use borrow.Author.Tests.{eq-eqb, ne-eqb, eqb-true}
 use Rattle.reader_tokens.specs.Scan.{agree, same, member}
 use Rattle.reader_tokens.specs.Kinds.{name}
-use Rattle.reader_tokens.specs.Tokens.{word-from}
+use Rattle.reader_tokens.specs.Tokens.{words, word-from, word-kind}
 
 module _ (b : ℕ) (s : List ℕ) (i : ℕ) where
   pub member-yes : i < length s → b ≡ getD s i 0 → member b (drop i s) ≡ true
@@ -84,3 +84,12 @@ module _ (ws : List (List ℕ)) (lengths : List ℕ) (q : lengths ≡ map length
     row-next =
         rw (sym (drop-drop (getD lengths i 0) at row), split, long)
         (drop-append-seam (getD ws i []) (flatten (drop (i + 1) ws)))
+
+-- fewer bytes than every word has are a name
+pub short-is-name : (n : ℕ) → n < 4 → (x : List ℕ) → name ≡ word-kind n x
+unfolding word-kind word-from words same
+short-is-name zero h x = refl
+short-is-name (suc zero) h x = refl
+short-is-name (suc (suc zero)) h x = refl
+short-is-name (suc (suc (suc zero))) h x = refl
+short-is-name (suc (suc (suc (suc n)))) h x = absurd (omega arith)

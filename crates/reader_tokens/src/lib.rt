@@ -70,6 +70,9 @@ pub const EQUAL: usize = 256 * b'=' as usize + b'=' as usize;
 
 pub const BOTH: usize = 256 * b'&' as usize + b'&' as usize;
 
+// The length of `chan`, `init` and `sync`.
+const SHORTEST_WORD: usize = 4;
+
 const DIGIT_ZERO: usize = b'0' as usize;
 
 // What `number_at` answers for every number above the largest constant.
@@ -221,9 +224,13 @@ fn word_among(s: &[u8], p: usize, n: usize, row: &[u8], lengths: &[usize]) -> us
     NAME
 }
 
+// The same. Most names are shorter than every word.
 fn word_kind(s: &[u8], p: usize, n: usize) -> usize
     ensures { λ r. ⌜ r ≡ word-kind n (drop p (now (s .entry))) ⌝ }
 {
+    if n < SHORTEST_WORD {
+        return NAME;
+    }
     let row = b"broadcastchanprocessclockstateinittranssystemguardsyncassign";
     word_among(s, p, n, row, &[9, 4, 7, 5, 5, 4, 5, 6, 5, 4, 6])
 }
