@@ -1,8 +1,8 @@
--- The numbers of a comparison that is read are small, whether it is refused or not.
+-- The constant of a comparison that is read is small, whether it is refused or not.
 use mathlib.Core.Path.{_≡_, refl}
 use mathlib.Core.Bool.{Bool, true, false, cond}
 use mathlib.Core.List.{List}
-use Prim.Native.Nat.{ℕ, _≤_, _<_}
+use Prim.Native.Nat.{ℕ, _≤_}
 use native.Mathlib.Omega.{arith}
 use lib.Dec.{eqb, ltb}
 use lib.ListN.{drop}
@@ -11,21 +11,12 @@ use Rattle.reader_tokens.specs.Kinds as kinds
 use Rattle.reader_tokens.specs.Scan.{value}
 use Rattle.reader_tokens.specs.Tokens.{token-at}
 use Rattle.reader_tokens.specs.declared.Token.{Token}
-use Rattle.reader_record.specs.Limits.{clock-limit, largest-constant}
-use Rattle.reader_record.specs.declared.Name.{Name}
+use Rattle.reader_record.specs.Limits.{largest-constant}
 use Rattle.reader_parts.specs.declared.Fault.the-variants.{Misfit, TooLarge}
 use Rattle.reader_parts.specs.declared.Status.{Status}
 use Rattle.reader_parts.specs.declared.Status.the-variants.{At, Refused}
-use Rattle.reader_parts.specs.declared.Use.{Use}
-use Rattle.reader_parts.specs.Facts.{use-small}
-use Rattle.reader_parts.specs.Names.{use-name}
-use Rattle.reader_parts.specs.Slots.{first-clock}
 use Rattle.reader_constraints.specs.declared.Amount.{Amount}
 use Rattle.reader_constraints.specs.Constraints.{no-amount, constant-of, constant}
-
-pub clock-small : (s : List ℕ) (st : Status) (names : List Name) (over : Bool) (u : Use) →
-    u ≡ use-name s st names first-clock clock-limit over → u .number < clock-limit
-clock-small s st names over u e = rw e (use-small s names first-clock clock-limit over (omega arith) st)
 
 constant-of-small : (s : List ℕ) (t : Token) → constant-of s t .value ≤ largest-constant
 unfolding constant-of

@@ -170,9 +170,9 @@ fn with_comparison(c: Constraint, x: Comparison) -> Constraint
     ensures { λ r. ⌜ r ≡ with-comparison c x ⌝ }
 {
     let mut d = c;
-    let k = d.count;
+    let k = d.count as usize;
     d.comparisons[k] = x;
-    d.count = k + 1;
+    d.count = (k + 1) as u8;
     d
 }
 
@@ -194,7 +194,7 @@ fn constraint(
     let mut c = no_constraint();
     let mut q = st;
     loop {
-        if COMPARISON_LIMIT <= c.count {
+        if COMPARISON_LIMIT <= c.count as usize {
             let x = comparison(s, q, names, invariant, true);
             let no = x.status;
             return ConstraintRead {

@@ -105,9 +105,9 @@ fn label_of(input: bool, channel: usize) -> Label
     ensures { λ r. ⌜ r ≡ label-of input channel ⌝ }
 {
     if input {
-        return Label::Input(channel + 1);
+        return Label::Input((channel + 1) as u8);
     }
-    Label::Output(channel + 1)
+    Label::Output((channel + 1) as u8)
 }
 
 pub struct LabelRead {
@@ -269,8 +269,8 @@ pub fn edge_next(
     let label = labelled.label;
     let resets = assigned.resets;
     let made = Edge {
-        source: source.number,
-        target: target.number,
+        source: source.number as u8,
+        target: target.number as u8,
         guard: guard,
         label: label,
         resets: resets,

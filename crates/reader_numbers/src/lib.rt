@@ -100,8 +100,8 @@ fn write_label(out: &mut [usize], at: usize, l: Label)
     ensures { λ _. ⌜ now (out .exit) ≡ put-at (now (out .entry)) at (label-numbers l) ⌝ }
 {
     match l {
-        Label::Input(c) => put_two(out, at, 1, c),
-        Label::Output(c) => put_two(out, at, 2, c),
+        Label::Input(c) => put_two(out, at, 1, c as usize),
+        Label::Output(c) => put_two(out, at, 2, c as usize),
     }
 }
 
@@ -119,7 +119,7 @@ fn write_constraint(out: &mut [usize], at: usize, g: Constraint)
     requires { ⌜ at ≤ 3150 ⌝ }
     ensures { λ _. ⌜ now (out .exit) ≡ put-at (now (out .entry)) at (constraint-numbers g) ⌝ }
 {
-    put(out, at, g.count);
+    put(out, at, g.count as usize);
     let mut i: usize = 0;
     while i < COMPARISON_LIMIT {
         let c = g.comparisons[i];
@@ -153,7 +153,7 @@ fn write_edge(out: &mut [usize], at: usize, e: Edge)
     requires { ⌜ at ≤ 3100 ⌝ }
     ensures { λ _. ⌜ now (out .exit) ≡ put-at (now (out .entry)) at (edge-numbers e) ⌝ }
 {
-    put_two(out, at, e.source, e.target);
+    put_two(out, at, e.source as usize, e.target as usize);
     let l = e.label;
     write_label(out, at + 2, l);
     let g = e.guard;

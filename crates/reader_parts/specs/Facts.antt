@@ -9,6 +9,7 @@ use borrow.Author.Tests.{leb-true, ltb-true}
 use Rattle.reader_record.specs.declared.Name.{Name}
 use Rattle.reader_parts.specs.declared.Status.{Status}
 use Rattle.reader_parts.specs.declared.Status.the-variants.{At, Refused}
+use Rattle.reader_parts.specs.declared.Use.{Use}
 use Rattle.reader_parts.specs.Status.{name-next}
 use Rattle.reader_parts.specs.Names.{slot-of, use-of, use-name}
 
@@ -29,3 +30,6 @@ module _ (s : List ℕ) (names : List Name) (first limit : ℕ) (over : Bool) (h
   pub use-small : (st : Status) → use-name s st names first limit over .number < limit
   unfolding use-name
   use-small st = small-of (name-next s st .name) (name-next s st .status)
+
+  pub used-small : (st : Status) (u : Use) → u ≡ use-name s st names first limit over → u .number < limit
+  used-small st u e = rw e (use-small st)

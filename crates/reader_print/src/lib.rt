@@ -62,7 +62,7 @@ fn comparison(c: Comparison) {
 
 // The comparison number i of a constraint that has it.
 fn comparison_at(c: Constraint, i: usize) {
-    if c.count <= i {
+    if c.count as usize <= i {
         return;
     }
     if COMPARISON_LIMIT <= i {
@@ -84,11 +84,11 @@ fn label(l: Label) {
     match l {
         Label::Input(c) => {
             io::write_all(1, b" ?");
-            put(c);
+            put(c as usize);
         }
         Label::Output(c) => {
             io::write_all(1, b" !");
-            put(c);
+            put(c as usize);
         }
     }
 }
@@ -162,8 +162,8 @@ fn edge(t: Text, i: usize) {
     }
     let e = t.edges[i];
     io::write_all(1, b"  edge");
-    put(e.source);
-    put(e.target);
+    put(e.source as usize);
+    put(e.target as usize);
     let l = e.label;
     label(l);
     let g = e.guard;

@@ -42,8 +42,8 @@ pub enum Sign {
     Equal,
 }
 
-// A clock, by its number from 0, a sign and a constant. There are 640 of them in a record, which is passed by value: they
-// are kept short.
+// A clock, by its number from 0, a sign and a constant. A record is passed by value and holds 640 comparisons, 160
+// constraints and 128 edges: their numbers are in the narrowest types that the limits above allow.
 pub struct Comparison {
     pub clock: u8,
     pub sign: Sign,
@@ -53,7 +53,7 @@ pub struct Comparison {
 // A guard or an invariant: all of the first `count` comparisons.
 pub struct Constraint {
     pub comparisons: [Comparison; COMPARISON_LIMIT],
-    pub count: usize,
+    pub count: u8,
 }
 
 pub struct Location {
@@ -63,14 +63,14 @@ pub struct Location {
 
 // What an edge is labelled with: an input or an output channel, by its number from 1.
 pub enum Label {
-    Input(usize),
-    Output(usize),
+    Input(u8),
+    Output(u8),
 }
 
 // Source and target are locations by their number from 0; `resets` has the clocks that the edge sets to 0.
 pub struct Edge {
-    pub source: usize,
-    pub target: usize,
+    pub source: u8,
+    pub target: u8,
     pub guard: Constraint,
     pub label: Label,
     pub resets: [bool; CLOCK_LIMIT],

@@ -23,6 +23,7 @@ use Rattle.clocks.specs.Contract.{system}
 use Rattle.clocks.specs.Encoded.{table-bounded, table-encoded, bits-bitmap, bits-start, safe-states-same}
 use Rattle.clocks_safe.specs.Settle.{Safe-answer, length-table, length-stage}
 use Rattle.clocks_states.specs.Counts.{times-bound}
+use Rattle.clocks_table.specs.Judge.{Room, judge-room}
 use Rattle.clocks_read.specs.declared.ReadAnswer.the-variants as read
 use Rattle.clocks_read.specs.declared.Reading.{Reading}
 use Rattle.clocks_read.specs.Reading.{read-outcome, Loading, load-outcome}
@@ -102,7 +103,7 @@ module _ (s k m h : List ℕ) (r : Reading) (m′ h′ : List ℕ) (e : loading 
   safe-refused f a = rw (sym (ap (λ (x : Reading). x .answer) reading-is) ∙ a)
 
   module _ (a : r .answer ≡ read.Accepted) where
-    is-accepted : read-outcome s .answer ≡ read.Accepted
+    pub is-accepted : read-outcome s .answer ≡ read.Accepted
     is-accepted = sym (ap (λ (x : Reading). x .answer) reading-is) ∙ a
 
     text-is : r .text ≡ read-outcome s .text
@@ -139,26 +140,21 @@ module _ (s k m h : List ℕ) (r : Reading) (m′ h′ : List ℕ) (e : loading 
         le-ltb (length k) (bytes (state-count (read-outcome s .text))) (rw states-are at l) in
         f ∙ ap (λ (t : Text). found-outcome t k) text-is ∙ rw outcome-is (rw (q, kept-outcome))
 
-    pub safe-ready : table-limit ≤ length m → bytes-limit ≤ length h → (r .states + 7) / 8 ≤ length k
-        → Ready (r .text) (r .states) m′ h′ k
-    unfolding table-size
-    safe-ready l n p =
+    pub safe-ready : (n : ℕ) → n ≡ state-count (read-outcome s .text) → Room n (length m) (length h)
+        → (r .states + 7) / 8 ≤ length k → Ready (r .text) (r .states) m′ h′ k
+    safe-ready n q l p =
         let w = read-accepted s is-accepted .accepted in
         let t = read-outcome s .text in
         let c = judgement-few t (w .clean) in
+        let room = judge-room t (w .formed) n q (omega arith) _ _ l in
         rw (text-is, states-are) (record {
           accepted = w;
           count = refl;
           over = m;
-          room = omega (
-            arith,
-            l,
-            times-bound (state-count t) (t .«channel_count» + 1) 4096 17 c
-                (omega (arith, w .formed .channels)),
-          );
+          room = room .0;
           moves-are = ap (λ (x : Loading). x .moves) e ∙ load-moves s m h is-accepted;
           under = h;
-          space = omega (arith, n, c);
+          space = room .1;
           holds-are = ap (λ (x : Loading). x .holds) e ∙ load-holds s m h is-accepted;
           long = rw states-are at p;
         })

@@ -1,4 +1,5 @@
 // Document 01's safe-state operation.
+use clocks_read::Measured;
 use clocks_read::ReadAnswer;
 use reader_record::Text;
 use refusals::Refusal;
@@ -7,6 +8,8 @@ ghost use Prim.Native.Nat.{ℕ, _≤_};
 ghost use lib.ListN.{length};
 ghost use Rattle.reader_record.specs.Formed.{Well-formed};
 ghost use Rattle.clocks.specs.States.{state-count, start-state};
+ghost use Rattle.clocks_table.specs.Judge.{Room};
+ghost use Rattle.clocks_read.specs.Measured.{Measures};
 ghost use Rattle.safe_states.specs.Outcome.{Outcome, found-outcome, safe-outcome};
 ghost use Rattle.safe_states.specs.Paths.{Ready};
 ghost use Rattle.reader_record.specs.Limits.{state-limit};
@@ -32,14 +35,19 @@ fn found(t: Text, n: usize, moves: &[u16], holds: &[u8], keep: &mut [u8]) -> Saf
     SafeAnswer::Found(count, safe)
 }
 
-// Writes the bits of the safe states into keep, state 0 in the high bit of byte 0.
-pub fn safe_states(text: &[u8], keep: &mut [u8]) -> SafeAnswer
+// The operation with slices that have room for the text, which is parsed and measured.
+fn safe_with(
+    text: &[u8],
+    m: Measured,
+    moves: &mut [u16],
+    holds: &mut [u8],
+    keep: &mut [u8],
+) -> SafeAnswer
+    requires { ⌜ Measures (now text) m × Room (m .states) (length (now moves)) (length (now holds)) ⌝ }
     ensures { λ r. ⌜ _≡_ {A = Outcome} (record { answer = r; keep = now (keep .exit) })
         (safe-outcome (now (text .entry)) (now (keep .entry))) ⌝ }
 {
-    let mut moves = clocks_read::no_moves();
-    let mut holds = clocks_read::no_states();
-    let reading = clocks_read::load(text, &mut moves, &mut holds);
+    let reading = clocks_read::judge(m, moves, holds);
     let answer = reading.answer;
     match answer {
         ReadAnswer::Refused(f) => SafeAnswer::Refused(f),
@@ -56,7 +64,23 @@ pub fn safe_states(text: &[u8], keep: &mut [u8]) -> SafeAnswer
                 return SafeAnswer::Refused(f);
             }
             let t = reading.text;
-            found(t, n, &moves, &holds, keep)
+            found(t, n, moves, holds, keep)
         }
     }
+}
+
+// Writes the bits of the safe states into keep, state 0 in the high bit of byte 0.
+pub fn safe_states(text: &[u8], keep: &mut [u8]) -> SafeAnswer
+    ensures { λ r. ⌜ _≡_ {A = Outcome} (record { answer = r; keep = now (keep .exit) })
+        (safe-outcome (now (text .entry)) (now (keep .entry))) ⌝ }
+{
+    let m = clocks_read::measure(text);
+    if m.states <= clocks_read::FEW_STATES {
+        let mut moves = clocks_read::few_moves();
+        let mut holds = clocks_read::few_states();
+        return safe_with(text, m, &mut moves, &mut holds, keep);
+    }
+    let mut moves = clocks_read::no_moves();
+    let mut holds = clocks_read::no_states();
+    safe_with(text, m, &mut moves, &mut holds, keep)
 }

@@ -17,12 +17,12 @@ use Rattle.two_prepare.specs.Prepared.{Ready, Ready-two, Safe-left, Prep
 
 module _ {left right : List ℕ} (c : Compared left right) {lm rm lh rh : List ℕ} {t : Two} (D : Loaded c lm rm lh rh t)
   where
-    pub loaded-ready : t .steps ≤ length (t .inputs) → Ready t lm lh
-    loaded-ready h = record {
+    pub loaded-ready : Ready t lm lh
+    loaded-ready = record {
       bounded = D .left-bounded;
       bits = D .left-bits;
       start = omega (arith, left-system c .start-state .0, D .left-size, D .left-start);
-      known = h;
+      known = omega (arith, D .steps-told, D .left-bounded .short);
     }
 
     pub loaded-right-start : t .«right_start» < t .«right_states»
@@ -63,10 +63,9 @@ module _ (left right lm rm lh rh : List ℕ) (t : Two) (O : Loads left right lm 
         → accepted nothing-found ≡ judged-by (two-judged left right) refused accepted
     by-texts refused accepted = sym (judged-by-none (two-judged left right) refused accepted nothing-found)
 
-    pub ready-two : length (t .inputs) ≡ 17 → Ready-two t lm rm lh
-    ready-two h = record {
-      left =
-          loaded-ready (compared left right nothing-found) loaded-two (omega (arith, loaded-two .left-bounded .short));
+    pub ready-two : Ready-two t lm rm lh
+    ready-two = record {
+      left = loaded-ready (compared left right nothing-found) loaded-two;
       right = loaded-two .right-bounded;
       right-start = loaded-right-start (compared left right nothing-found) loaded-two;
     }

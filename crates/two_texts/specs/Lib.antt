@@ -1,4 +1,5 @@
 pub mod Two
+pub mod Measured
 pub mod Laws
 pub mod Loaded
 pub mod Answers

@@ -3,11 +3,13 @@ use mathlib.Core.Path.{_≡_}
 use mathlib.Core.Option.{Option, none, some}
 use mathlib.Core.List.{List}
 use Prim.Native.Nat.{ℕ}
+use lib.ListN.{length}
 use Rattle.refusals.specs.declared.Refusal.{Refusal}
 use Rattle.systems.specs.Tests.{table}
 use Rattle.clocks_bits.specs.Packed.{packed, Bitmap}
 use Rattle.clocks_bits.specs.Moves.{Bounded, Encodes, Encoded}
 use Rattle.clocks.specs.Contract.{signature}
+use Rattle.pairing.specs.Channels.{most-steps}
 use Rattle.two_texts.specs.declared.TwoAnswer.{TwoAnswer}
 use Rattle.two_texts.specs.declared.TwoAnswer.the-variants.{Accepted, Refused}
 use Rattle.two_texts.specs.declared.Two.{Two}
@@ -26,6 +28,7 @@ pub record Loaded {left right : List ℕ} (c : Compared left right)
   pub right-size : right-system c .size ≡ t .«right_states»
   pub left-start : left-system c .start ≡ t .«left_start»
   pub right-start : right-system c .start ≡ t .«right_start»
+  pub steps-told : length (t .inputs) ≡ most-steps
   pub left-bounded : Bounded (t .«left_states») (t .steps) left-moves
   pub right-bounded : Bounded (t .«right_states») (t .steps) right-moves
   pub left-encoded : Encoded (signature (text-of left)) (left-system c) left-moves (t .inputs) (t .«left_states»)

@@ -11,12 +11,13 @@ use Rattle.refusals.specs.declared.Refusal.{Refusal}
 use Rattle.refusals.specs.Refusals.{in-file, text-too-long}
 use Rattle.systems.specs.Bools.{none-some}
 use Rattle.reader_record.specs.declared.Text.{Text}
-use Rattle.reader_record.specs.Limits.{largest-text}
+use Rattle.reader_record.specs.Limits.{largest-text, state-limit}
 use Rattle.reader_record.specs.Formed.{Well-formed}
 use Rattle.clocks_bits.specs.Bits.{tab-from, written, written-length}
-use Rattle.clocks.specs.States.{state-count, start-state, input, table-entry, table-size, table-limit, bytes-limit}
+use Rattle.clocks.specs.States.{state-count, start-state, input, table-entry, table-size}
 use Rattle.clocks.specs.Accepted as accepted
 use Rattle.clocks.specs.Judgement.{judgement-few}
+use Rattle.clocks_table.specs.Judge.{Room}
 use Rattle.clocks_read.specs.declared.ReadAnswer.the-variants as read
 use Rattle.clocks_read.specs.declared.Reading.{Reading}
 use Rattle.clocks_read.specs.Reading.{read-outcome, Loading, load-outcome}
@@ -127,7 +128,7 @@ module _ (left : List ℕ) (l : Reading) (right : List ℕ) (r : Reading) (L : A
     many = equally-many left (text-of left) right (text-of right) (named left (both-judged .left-read))
         (named right (both-judged .right-read)) (both-judged .equal)
 
-    pub paired-renumbers : (d : List ℕ) → table-limit ≤ length d
+    pub paired-renumbers : (d : List ℕ) → r .states * most-steps ≤ length d
         → Renumbering (length d) (p .map) (r .states) (l .text .«channel_count» + 1)
     paired-renumbers d k =
         let wl = reading-accepted left l L in
@@ -135,8 +136,8 @@ module _ (left : List ℕ) (l : Reading) (right : List ℕ) (r : Reading) (L : A
         rw (map-is, states-are right r R, text-is left l L) (record {
           few = omega (arith, wl .formed .channels);
           rows = judgement-few (text-of right) (wr .clean);
-          long = table-fits (text-of right) wr (text-of left .«channel_count» + 1) (length d)
-              (omega (arith, wl .formed .channels)) k;
+          long = table-fits (text-of right) (text-of left .«channel_count» + 1) (length d)
+              (omega (arith, wl .formed .channels)) (rw (states-are right r R) at k);
           steps = λ c m. rw (map-at left right both-judged c (omega (arith, wl .formed .channels)))
               (omega (arith, step-below left right both-judged c m, many));
         })
@@ -176,29 +177,38 @@ module _ (s m h : List ℕ) (r : Reading) (m′ h′ : List ℕ) (e : loading r 
     loaded-moves : m′ ≡ written (table-entry (text-of s)) (table-size (text-of s)) m
     loaded-moves = ap (λ (x : Loading). x .moves) e ∙ load-moves s m h (answer-is s r loaded-reading)
 
-    loaded-room : table-limit ≤ length m → table-size (text-of s) ≤ length m
-    unfolding table-size
-    loaded-room k =
-        let w = reading-accepted s r loaded-reading in
-        table-fits (text-of s) w (text-of s .«channel_count» + 1) (length m) (omega (arith, w .formed .channels)) k
+    -- the slices have room for it
+    module _ (n : ℕ) (c : n ≡ state-count (text-of s)) (k : Room n (length m) (length h)) where
+      loaded-few : n ≤ state-limit
+      loaded-few = omega (arith, c, judgement-few (text-of s) (reading-accepted s r loaded-reading .clean))
 
-    loaded-filled : table-limit ≤ length m → bytes-limit ≤ length h → Filled (text-of s) m′ h′
-    loaded-filled k l =
-        let w = reading-accepted s r loaded-reading in
-        record {
-          over = m;
-          room = loaded-room k;
-          moves-are = loaded-moves;
-          under = h;
-          long = omega (arith, l, judgement-few (text-of s) (w .clean));
-          holds-are = ap (λ (x : Loading). x .holds) e ∙ load-holds s m h (answer-is s r loaded-reading);
-        }
+      loaded-most : state-count (text-of s) * most-steps ≤ length m
+      loaded-most = rw (sym c) (k .table loaded-few)
 
-    -- the table keeps its length
-    pub loaded-long : table-limit ≤ length m → table-limit ≤ length m′
-    loaded-long k =
-        let e = written-length (table-entry (text-of s)) (table-size (text-of s)) m (loaded-room k) in
-        omega (arith, k, ap length loaded-moves, e)
+      loaded-room : table-size (text-of s) ≤ length m
+      unfolding table-size
+      loaded-room =
+          table-fits (text-of s) (text-of s .«channel_count» + 1) (length m)
+          (omega (arith, reading-accepted s r loaded-reading .formed .channels)) loaded-most
+
+      loaded-filled : Filled (text-of s) m′ h′
+      loaded-filled = record {
+        over = m;
+        room = loaded-room;
+        moves-are = loaded-moves;
+        under = h;
+        long = rw (sym c) (k .bits loaded-few);
+        holds-are = ap (λ (x : Loading). x .holds) e ∙ load-holds s m h (answer-is s r loaded-reading);
+      }
+
+      -- the table keeps its length
+      loaded-long : state-count (text-of s) * most-steps ≤ length m′
+      loaded-long =
+          let l = written-length (table-entry (text-of s)) (table-size (text-of s)) m loaded-room in
+          omega (arith, loaded-most, ap length loaded-moves, l)
+
+      pub loaded-wide : r .states * most-steps ≤ length m′
+      loaded-wide = rw (states-are s r loaded-reading) loaded-long
 
 -- the paths after the right is loaded
 module _ (left : List ℕ) (l : Reading) (L : Accepted-reading left l) (right m h : List ℕ) (r : Reading)
@@ -214,21 +224,20 @@ module _ (left : List ℕ) (l : Reading) (L : Accepted-reading left l) (right m 
   }
 
   pub right-paired : (d : List ℕ) (t : Two) → r .answer ≡ read.Accepted
-      → table-limit ≤ length m → bytes-limit ≤ length h
+      → (n : ℕ) → n ≡ state-count (text-of right) → Room n (length m) (length h)
       → Paired left right own own d t → Right-loaded left right d h′ t
   unfolding or-else
-  right-paired d t a k n P =
+  right-paired d t a n c k P =
       let wl = reading-accepted left l L in
-      let wr = reading-accepted right r (loaded-reading right m h r own h′ e a) in
       record {
         judged = rw (loaded-none right m h r own h′ e a right-file) (P .judged);
         numbers = P .numbers;
         filled = λ z. record {
           own = own;
-          filled = loaded-filled right m h r own h′ e a k n;
+          filled = loaded-filled right m h r own h′ e a n c k;
           before = own;
-          space = table-fits (text-of right) wr (text-of left .«channel_count» + 1) (length own)
-              (omega (arith, wl .formed .channels)) (loaded-long right m h r own h′ e a k);
+          space = table-fits (text-of right) (text-of left .«channel_count» + 1) (length own)
+              (omega (arith, wl .formed .channels)) (loaded-long right m h r own h′ e a n c k);
           moves-are = P .moves z;
         };
       }
@@ -269,10 +278,10 @@ module _ (left right : List ℕ) where
           )) z
 
       pub both-read : (rm rh : List ℕ) (t : Two) → l .answer ≡ read.Accepted
-          → table-limit ≤ length lm → bytes-limit ≤ length lh
+          → (n : ℕ) → n ≡ state-count (text-of left) → Room n (length lm) (length lh)
           → Right-loaded left right rm rh t → Loads left right lm′ rm lh′ rh t
       unfolding two-judged too-long-in or-else
-      both-read rm rh t a m n R =
+      both-read rm rh t a n q m R =
           let j : two-judged left right ≡ refusal-in (t .answer) =
           rw (
             le-ltb largest-text (length left) h,
@@ -283,5 +292,5 @@ module _ (left right : List ℕ) where
             judged = j;
             loaded = λ c z. rw (R .numbers z)
                 (both-loaded left right lm′ rm lh′ rh (judged-none left right (sym (j ∙ accepted-none t z))) c
-                (loaded-filled left lm lh l lm′ lh′ e a m n) (R .filled z));
+                (loaded-filled left lm lh l lm′ lh′ e a n q m) (R .filled z));
           }

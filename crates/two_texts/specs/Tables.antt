@@ -2,7 +2,7 @@
 use mathlib.Core.Path.{_≡_, refl, ap, _∙_}
 use mathlib.Core.List.{List}
 use Prim.Native.Nat.{ℕ, _+_, _*_, _≤_, _<_}
-use native.Mathlib.Nat.{zero-add}
+use native.Mathlib.Nat.{zero-add, mul-le-mul-left}
 use native.Mathlib.Omega.{arith}
 use lib.Arith.{digits-lt, digits-div, digits-mod}
 use lib.ListN.{length, getD}
@@ -11,15 +11,14 @@ use Rattle.systems.specs.Tests.{table}
 use Rattle.systems.specs.Renumbered.{renumbered}
 use Rattle.reader_record.specs.declared.Text.{Text}
 use Rattle.reader_formed.specs.Cases.{when-equal}
-use Rattle.clocks_bits.specs.Bits.{tab-from, tab-at, written-at, written-length}
+use Rattle.clocks_bits.specs.Bits.{tab-from, tab-at, length-tab, written-at, written-length}
 use Rattle.clocks_bits.specs.Moves.{Bounded, Encodes}
-use Rattle.clocks.specs.States.{state-count, next, input, table-limit, invariants}
+use Rattle.clocks.specs.States.{state-count, next, input, invariants}
 use Rattle.clocks.specs.Accepted as accepted
 use Rattle.clocks.specs.Judgement.{judgement-few}
 use Rattle.clocks.specs.Contract.{signature, system}
 use Rattle.clocks.specs.Encoded.{table-bounded, table-encoded, bits-bitmap, bits-start}
 use Rattle.clocks_safe.specs.Settle.{length-table}
-use Rattle.clocks_states.specs.Counts.{times-bound}
 use Rattle.pairing.specs.Channels.{Channel, most-steps}
 use Rattle.pairing.specs.Table as by-map
 use Rattle.pairing.specs.Equal.{tick-stays, step-there}
@@ -29,11 +28,10 @@ use Rattle.two_texts.specs.Loaded.{Loaded}
 use Rattle.two_texts.specs.Answers.{accepted as accepted-two, size-by-left, by-left, Filled, Right-filled}
 use Rattle.reader_record.specs.Limits.{state-limit}
 
--- an accepted text's table fits wherever the largest does, by its own steps or by as few others
-pub table-fits : (t : Text) → accepted.Accepted t → (steps room : ℕ) → steps ≤ most-steps → table-limit ≤ room
+-- a text's table fits wherever one with the most steps does
+pub table-fits : (t : Text) (steps room : ℕ) → steps ≤ most-steps → state-count t * most-steps ≤ room
     → state-count t * steps ≤ room
-table-fits t a steps room h l =
-    omega (arith, times-bound (state-count t) steps state-limit most-steps (judgement-few t (a .clean)) h)
+table-fits t steps room h l = omega (arith, mul-le-mul-left (state-count t) h)
 
 length-invariants : (t : Text) → length (invariants t) ≡ state-count t
 unfolding invariants
@@ -128,6 +126,7 @@ module _ (left right lm rm lh rh : List ℕ) (j : Judged left right) (c : Compar
         right-size = refl;
         left-start = refl;
         right-start = refl;
+        steps-told = length-tab (input l) 0 most-steps;
         left-bounded = table-bounded l a (L .over) lm (L .room) (L .moves-are);
         right-bounded = right-bounded left right rm rh j c R;
         left-encoded = table-encoded l a (L .over) lm (L .room) (L .moves-are) (tab-from (input l) 0 most-steps) refl;

@@ -2,8 +2,11 @@
 use borrow.Author.Needs.{needs}
 use mathlib.Core.Path.{sym}
 use native.Mathlib.Omega.{arith}
+use Rattle.reader_record.specs.Limits.{clock-limit}
+use Rattle.reader_parts.specs.Facts.{used-small}
+use Rattle.reader_parts.specs.Slots.{first-clock}
 use Rattle.reader_constraints.specs.Constraints.{constant, comparison}
-use Rattle.reader_constraints.specs.Facts.{clock-small, amount-small}
+use Rattle.reader_constraints.specs.Facts.{amount-small}
 use Rattle.reader_constraints.proofs.comparison.Statement.{statement}
 use Rattle.reader_constraints.proofs.comparison.Tie as tie
 
@@ -17,7 +20,9 @@ constant-requires : tie.Need-constant-requires
 constant-requires c κs = search needs
 
 cast-number : tie.Need-cast-number
-cast-number c = omega (arith, clock-small _ _ _ _ _ (c .before .before .before .use-name .ensures))
+cast-number c =
+    let named = c .before .before .before .use-name in
+    omega (arith, used-small _ _ first-clock clock-limit _ (omega arith) _ _ (named .ensures))
 
 cast-value : tie.Need-cast-value
 cast-value c = omega (arith, amount-small _ _ _ (c .before .before .constant .ensures))

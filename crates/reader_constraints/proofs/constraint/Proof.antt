@@ -27,6 +27,9 @@ loop-holds : tie.Need-loop-holds Inv-loop μ-loop
 unfolding no-constraint
 loop-holds c = rw (c .no-constraint .ensures) (lit≤ tt, refl)
 
+cast-if1 : tie.Need-cast-if1 Inv-loop μ-loop
+cast-if1 c = search needs
+
 comparison-requires : tie.Need-comparison-requires Inv-loop μ-loop
 comparison-requires c κs = search needs
 
@@ -92,6 +95,7 @@ constraint-spec =
     μ-loop
     no-constraint-requires
     loop-holds
+    cast-if1
     comparison-requires
     returns
     comparison-requires-2

@@ -1,6 +1,10 @@
--- `edge_next` is `edge-next`, by the contracts of its parts.
+-- `edge_next` is `edge-next`, by the contracts of its parts; the numbers of its locations are small.
 use borrow.Author.Needs.{needs}
+use native.Mathlib.Omega.{arith}
 use mathlib.Core.Path.{sym}
+use Rattle.reader_record.specs.Limits.{location-limit}
+use Rattle.reader_parts.specs.Facts.{used-small}
+use Rattle.reader_parts.specs.Slots.{first-location}
 use Rattle.reader_parts.specs.Status.{take}
 use Rattle.reader_constraints.specs.Constraints.{guard}
 use Rattle.reader_edges.specs.Assigns.{assigns}
@@ -32,16 +36,27 @@ assigns-requires c κs = search needs
 take-requires-3 : tie.Need-take-requires-3
 take-requires-3 c κs = search needs
 
+cast-t23 : tie.Need-cast-t23
+cast-t23 c =
+    let named = c .before .before .before .before .before .before .before .before .before .before .use-name in
+    omega (arith, used-small _ _ first-location location-limit _ (omega arith) _ _ (named .ensures))
+
+cast-t24 : tie.Need-cast-t24
+cast-t24 c =
+    let named = c .before .before .before .before .before .before .before .before .before .use-name2 in
+    omega (arith, used-small _ _ first-location location-limit _ (omega arith) _ _ (named .ensures))
+
 returns : tie.Need-returns
 unfolding edge-next
 returns c =
-    let use-name-call = c .before .before .before .before .before .before .before .before .before .use-name in
-    let take-call = c .before .before .before .before .before .before .before .before .take in
-    let use-name2-call = c .before .before .before .before .before .before .before .use-name2 in
-    let take2-call = c .before .before .before .before .before .before .take2 in
-    let guard-call = c .before .before .before .before .before .guard in
-    let label-next-call = c .before .before .before .before .label-next in
-    let assigns-call = c .before .before .before .assigns in
+    let reads = c .before .before in
+    let use-name-call = reads .before .before .before .before .before .before .before .before .before .use-name in
+    let take-call = reads .before .before .before .before .before .before .before .before .take in
+    let use-name2-call = reads .before .before .before .before .before .before .before .use-name2 in
+    let take2-call = reads .before .before .before .before .before .before .take2 in
+    let guard-call = reads .before .before .before .before .before .guard in
+    let label-next-call = reads .before .before .before .before .label-next in
+    let assigns-call = reads .before .before .before .assigns in
     rw (
       sym (use-name-call .ensures),
       sym (take-call .ensures),
@@ -55,7 +70,7 @@ returns c =
           (label-next-call .ensures),
       sym (assigns-call .ensures),
       sym
-          (c .before .before .take3 .ensures),
+          (reads .before .before .take3 .ensures),
     )
 
 pub edge-next-spec : {M : Type 1} → statement M
@@ -70,4 +85,6 @@ edge-next-spec =
     label-next-requires
     assigns-requires
     take-requires-3
+    cast-t23
+    cast-t24
     returns)

@@ -17,6 +17,9 @@ Inv-loop out₀ at g i₀ out i = Written 4 (at + 1) (λ k. comparison-numbers (
 abbrev μ-loop : tie.MeasureT-loop
 μ-loop out₀ at g i₀ out i = 4 - i
 
+cast-put : tie.Need-cast-put Inv-loop μ-loop
+cast-put c = search needs
+
 put-requires : tie.Need-put-requires Inv-loop μ-loop
 put-requires c κs = search needs
 
@@ -83,6 +86,7 @@ write-constraint-spec =
     (tie.spec
     Inv-loop
     μ-loop
+    cast-put
     put-requires
     loop-holds
     mul-c

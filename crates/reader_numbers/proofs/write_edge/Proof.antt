@@ -8,6 +8,12 @@ use borrow.Author.Needs.{needs}
 use Rattle.reader_numbers.proofs.write_edge.Statement.{statement}
 use Rattle.reader_numbers.proofs.write_edge.Tie as tie
 
+cast-put-two : tie.Need-cast-put-two
+cast-put-two c = search needs
+
+cast-put-two-2 : tie.Need-cast-put-two-2
+cast-put-two-2 c = search needs
+
 put-two-requires : tie.Need-put-two-requires
 put-two-requires c κs = search needs
 
@@ -81,6 +87,8 @@ pub write-edge-spec : {M : Type 1} → statement M
 write-edge-spec =
     tie.close
     (tie.spec
+    cast-put-two
+    cast-put-two-2
     put-two-requires
     add-write-label
     write-label-requires

@@ -8,11 +8,17 @@ use Rattle.reader_numbers.proofs.write_label.Tie as tie
 enum-known-l : tie.Need-enum-known-l
 enum-known-l c = search needs
 
+cast-put-two : tie.Need-cast-put-two
+cast-put-two c = search needs
+
 put-two-requires : tie.Need-put-two-requires
 put-two-requires c κs = search needs
 
 enum-known-l-2 : tie.Need-enum-known-l-2
 enum-known-l-2 c = search needs
+
+cast-put-two-2 : tie.Need-cast-put-two-2
+cast-put-two-2 c = search needs
 
 put-two-requires-2 : tie.Need-put-two-requires-2
 put-two-requires-2 c κs = search needs
@@ -36,8 +42,10 @@ write-label-spec =
     tie.close
     (tie.spec
     enum-known-l
+    cast-put-two
     put-two-requires
     enum-known-l-2
+    cast-put-two-2
     put-two-requires-2
     same-length
     returns

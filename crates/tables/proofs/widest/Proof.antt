@@ -1,9 +1,55 @@
--- `tables::widest` meets its contract, by the callees' contracts and the laws of its paths.
-use Rattle.two_prepare.specs.Callers.{ready-two, loaded-two}
-use Rattle.tables.specs.Paths.{widest-refused, widest-done}
+-- Small slices where they have room, else large ones: `widest_with` promises the outcome with either.
 use borrow.Author.Needs.{needs}
+use Rattle.two_texts.specs.Measured.{rooms-few, rooms-always}
 use Rattle.tables.proofs.widest.Statement.{statement}
 use Rattle.tables.proofs.widest.Tie as tie
+
+measure-two-requires : tie.Need-measure-two-requires
+measure-two-requires c κs = search needs
+
+few-moves-requires : tie.Need-few-moves-requires
+few-moves-requires c κs = search needs
+
+few-moves-requires-2 : tie.Need-few-moves-requires-2
+few-moves-requires-2 c κs = search needs
+
+few-states-requires : tie.Need-few-states-requires
+few-states-requires c κs = search needs
+
+few-states-requires-2 : tie.Need-few-states-requires-2
+few-states-requires-2 c κs = search needs
+
+slice-aggregate-widest-with : tie.Need-slice-aggregate-widest-with
+slice-aggregate-widest-with c = search needs
+
+slice-aggregate-widest-with-2 : tie.Need-slice-aggregate-widest-with-2
+slice-aggregate-widest-with-2 c = search needs
+
+slice-aggregate-widest-with-3 : tie.Need-slice-aggregate-widest-with-3
+slice-aggregate-widest-with-3 c = search needs
+
+slice-aggregate-widest-with-4 : tie.Need-slice-aggregate-widest-with-4
+slice-aggregate-widest-with-4 c = search needs
+
+widest-with-requires : tie.Need-widest-with-requires
+widest-with-requires c κs =
+    let slices = c .before .before .before .before .before .before in
+    let moves = slices .before .before in
+    let tested = moves .before .before in
+    let measures = tested .before .measure-two .ensures in (
+      measures,
+      rooms-few _ _ _ _ _ (measures .few) (tested .if1 .taken) (moves .before .few-moves .ensures)
+          (moves .few-moves2 .ensures) (slices .before .few-states .ensures) (slices .few-states2 .ensures),
+    )
+
+same-length : tie.Need-same-length
+same-length c = search needs
+
+same-length-2 : tie.Need-same-length-2
+same-length-2 c = search needs
+
+returns : tie.Need-returns
+returns c = search needs
 
 no-moves-requires : tie.Need-no-moves-requires
 no-moves-requires c κs = search needs
@@ -17,101 +63,62 @@ no-states-requires c κs = search needs
 no-states-requires-2 : tie.Need-no-states-requires-2
 no-states-requires-2 c κs = search needs
 
-slice-aggregate-load-two : tie.Need-slice-aggregate-load-two
-slice-aggregate-load-two c = search needs
+slice-aggregate-widest-with-5 : tie.Need-slice-aggregate-widest-with-5
+slice-aggregate-widest-with-5 c = search needs
 
-slice-aggregate-load-two-2 : tie.Need-slice-aggregate-load-two-2
-slice-aggregate-load-two-2 c = search needs
+slice-aggregate-widest-with-6 : tie.Need-slice-aggregate-widest-with-6
+slice-aggregate-widest-with-6 c = search needs
 
-slice-aggregate-load-two-3 : tie.Need-slice-aggregate-load-two-3
-slice-aggregate-load-two-3 c = search needs
+slice-aggregate-widest-with-7 : tie.Need-slice-aggregate-widest-with-7
+slice-aggregate-widest-with-7 c = search needs
 
-slice-aggregate-load-two-4 : tie.Need-slice-aggregate-load-two-4
-slice-aggregate-load-two-4 c = search needs
+slice-aggregate-widest-with-8 : tie.Need-slice-aggregate-widest-with-8
+slice-aggregate-widest-with-8 c = search needs
 
-load-two-requires : tie.Need-load-two-requires
-load-two-requires c κs = search needs
-
-enum-known-answer : tie.Need-enum-known-answer
-enum-known-answer c = search needs
-
-enum-told : tie.Need-enum-told
-enum-told c = search needs
-
-slice-aggregate-made : tie.Need-slice-aggregate-made
-slice-aggregate-made c = search needs
-
-slice-aggregate-made-2 : tie.Need-slice-aggregate-made-2
-slice-aggregate-made-2 c = search needs
-
-slice-aggregate-made-3 : tie.Need-slice-aggregate-made-3
-slice-aggregate-made-3 c = search needs
-
-slice-aggregate-made-4 : tie.Need-slice-aggregate-made-4
-slice-aggregate-made-4 c = search needs
-
-made-requires : tie.Need-made-requires
-made-requires c κs =
-    let args = c .before .before .before .before .before .before .before .before .before .before .before .before
-    .before .before .before .before .before .before .before .before .before .before .before .before .before .args in
-    let loaded = c .before .before .before .before .before .before .before .before .before .before .before
-    .before .load-two in
-    let enum-told-call = c .before .before .before .before .before .before .enum-told in (
-      ready-two (args .left .now) (args .right .now) _ _ _ _ (loaded .result) (loaded .ensures)
-          (enum-told-call .given .1) (search needs),
-      loaded-two
-          (args .left .now) (args .right .now) _ _ _ _ (loaded .result) (loaded .ensures)
-          (enum-told-call .given .1) .right-bits,
+widest-with-requires-2 : tie.Need-widest-with-requires-2
+widest-with-requires-2 c κs =
+    let slices = c .before .before .before .before .before .before in
+    let moves = slices .before .before in (
+      moves .before .before .before .measure-two .ensures,
+      rooms-always _ _ _ _ _ (moves .before .no-moves .ensures) (moves .no-moves2 .ensures)
+          (slices .before .no-states .ensures) (slices .no-states2 .ensures),
     )
 
-returns : tie.Need-returns
-returns c =
-    let args = c .before .before .before .before .before .before .before .before .before .before .before .before
-    .before .before .before .before .before .before .before .before .args in
-    let loaded = c .before .before .before .before .before .before .before .load-two in
-    widest-refused (args .left .now) (args .right .now) _ _ _ _ (loaded .result) (loaded .ensures) (args .keep .now)
-    (args .table .now) _ (c .before .answer .given .1)
+same-length-3 : tie.Need-same-length-3
+same-length-3 c = search needs
 
-same-length : tie.Need-same-length
-same-length c = search needs
-
-same-length-2 : tie.Need-same-length-2
-same-length-2 c = search needs
+same-length-4 : tie.Need-same-length-4
+same-length-4 c = search needs
 
 returns-2 : tie.Need-returns-2
-returns-2 c =
-    let args = c .before .before .before .before .before .before .before .before .before .before .before .before
-    .before .before .before .before .before .before .before .before .before .before .before .before .before .before
-    .before .before .before .before .before .args in
-    let loaded = c .before .before .before .before .before .before .before .before .before .before .before
-    .before .before .before .before .before .before .before .load-two in
-    let enum-told-call = c .before .before .before .before .before .before .before .before .before .before .before
-    .before .enum-told in
-    let made-call = c .before .before .before .before .before .made in
-    widest-done (args .left .now) (args .right .now) _ _ _ _ (loaded .result) (loaded .ensures) (args .keep .now)
-    (args .table .now) (enum-told-call .given .1) _ (made-call .ensures)
+returns-2 c = search needs
 
 pub widest-spec : {M : Type 1} → statement M
 widest-spec =
     tie.close
     (tie.spec
+    measure-two-requires
+    few-moves-requires
+    few-moves-requires-2
+    few-states-requires
+    few-states-requires-2
+    slice-aggregate-widest-with
+    slice-aggregate-widest-with-2
+    slice-aggregate-widest-with-3
+    slice-aggregate-widest-with-4
+    widest-with-requires
+    same-length
+    same-length-2
+    returns
     no-moves-requires
     no-moves-requires-2
     no-states-requires
     no-states-requires-2
-    slice-aggregate-load-two
-    slice-aggregate-load-two-2
-    slice-aggregate-load-two-3
-    slice-aggregate-load-two-4
-    load-two-requires
-    enum-known-answer
-    enum-told
-    slice-aggregate-made
-    slice-aggregate-made-2
-    slice-aggregate-made-3
-    slice-aggregate-made-4
-    made-requires
-    returns
-    same-length
-    same-length-2
+    slice-aggregate-widest-with-5
+    slice-aggregate-widest-with-6
+    slice-aggregate-widest-with-7
+    slice-aggregate-widest-with-8
+    widest-with-requires-2
+    same-length-3
+    same-length-4
     returns-2)

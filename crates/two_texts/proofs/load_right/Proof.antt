@@ -1,11 +1,15 @@
 -- Codes 2 to 11 of the right, then what pairing promises: one law of Paths.antt a path.
 use borrow.Author.Needs.{needs}
-use Rattle.two_texts.specs.Paths.{loaded-reading, loaded-long, right-refused, right-paired}
+use mathlib.Core.Path.{_∙_}
+use Rattle.clocks_read.specs.Measured.{measured-load, measured-states}
+use Rattle.two_texts.specs.Paths.{answer-is, loaded-reading, loaded-wide, right-refused, right-paired}
 use Rattle.two_texts.proofs.load_right.Statement.{statement}
 use Rattle.two_texts.proofs.load_right.Tie as tie
 
-load-requires : tie.Need-load-requires
-load-requires c κs = search needs
+judge-requires : tie.Need-judge-requires
+judge-requires c κs =
+    let start = c .before .before .before .before .before .before in
+    (start .pre .1 .counted, start .pre .2)
 
 enum-known-answer : tie.Need-enum-known-answer
 enum-known-answer c = search needs
@@ -23,12 +27,14 @@ paired-requires : tie.Need-paired-requires
 paired-requires c κs =
     let told = c .before in
     let loads = told .before .before .before .before .before .before in
-    let start = loads .before .before .before .before .before .before .before in (
+    let start = loads .before .before .before .before .before .before .before in
+    let text = start .args .right .now in
+    let loaded = loads .judge .ensures ∙ measured-load text _ (start .pre .1) _ _ in
+    let accepted = loaded-reading text _ _ (loads .judge .result) _ _ loaded (told .enum-told .given .1) in
+    let states = measured-states text _ (start .pre .1) (answer-is text _ accepted) in (
       start .pre .0,
-      loaded-reading (start .args .right .now) _ _ (loads .load .result) _ _ (loads .load .ensures)
-          (told .enum-told .given .1),
-      loaded-long (start .args .right .now) _ _ (loads .load .result) _ _ (loads .load .ensures)
-          (told .enum-told .given .1) (start .pre .1),
+      accepted,
+      loaded-wide text _ _ (loads .judge .result) _ _ loaded (told .enum-told .given .1) _ states (start .pre .2),
     )
 
 same-length : tie.Need-same-length
@@ -44,7 +50,7 @@ returns c =
     let loads = told .before .before .before .before .before .before in
     let start = loads .before .before .before .before .before .before .before in
     right-refused (start .args .left .now) (start .args .l) (start .pre .0) (start .args .right .now) _ _
-    (loads .load .result) _ _ (loads .load .ensures) _ _ _ _ (told .answer .given .1) (marks .in-file .ensures)
+    (loads .judge .result) _ _ (loads .judge .ensures ∙ measured-load _ _ (start .pre .1) _ _) _ _ _ _ (told .answer .given .1) (marks .in-file .ensures)
     (c .refused .ensures)
 
 same-length-3 : tie.Need-same-length-3
@@ -59,15 +65,18 @@ returns-2 c =
     let told = ends .before .before in
     let loads = told .before .before .before .before .before .before in
     let start = loads .before .before .before .before .before .before .before in
-    right-paired (start .args .left .now) (start .args .l) (start .pre .0) (start .args .right .now) _ _
-    (loads .load .result) _ _ (loads .load .ensures) _ _ (told .enum-told .given .1) (start .pre .1) (start .pre .2)
-    (ends .paired .ensures)
+    let text = start .args .right .now in
+    let loaded = loads .judge .ensures ∙ measured-load text _ (start .pre .1) _ _ in
+    let accepted = loaded-reading text _ _ (loads .judge .result) _ _ loaded (told .enum-told .given .1) in
+    let states = measured-states text _ (start .pre .1) (answer-is text _ accepted) in
+    right-paired (start .args .left .now) (start .args .l) (start .pre .0) text _ _ (loads .judge .result) _ _ loaded _ _
+    (told .enum-told .given .1) _ states (start .pre .2) (ends .paired .ensures)
 
 pub load-right-spec : {M : Type 1} → statement M
 load-right-spec =
     tie.close
     (tie.spec
-    load-requires
+    judge-requires
     enum-known-answer
     in-file-requires
     refused-requires

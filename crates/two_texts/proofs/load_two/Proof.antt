@@ -1,6 +1,8 @@
 -- Codes 1 to 12 in their order: one law of Paths.antt a path.
 use borrow.Author.Needs.{needs}
-use Rattle.two_texts.specs.Paths.{loaded-reading, left-too-long, right-too-long, left-refused, both-read}
+use mathlib.Core.Path.{_∙_}
+use Rattle.clocks_read.specs.Measured.{measured-load, measured-states}
+use Rattle.two_texts.specs.Paths.{answer-is, loaded-reading, left-too-long, right-too-long, left-refused, both-read}
 use Rattle.two_texts.proofs.load_two.Statement.{statement}
 use Rattle.two_texts.proofs.load_two.Tie as tie
 
@@ -25,8 +27,10 @@ returns-2 c =
     right-too-long (start .args .left .now) (start .args .right .now) (short-left .if1 .left) _ _ _ _ _
     (short-right .if2 .taken) (c .refused2 .ensures)
 
-load-requires : tie.Need-load-requires
-load-requires c κs = search needs
+judge-requires : tie.Need-judge-requires
+judge-requires c κs =
+    let start = c .before .before .before .before .before .before .before .before .before .before .before .before in
+    (start .pre .0 .left-text .counted, start .pre .1 .left)
 
 enum-known-answer : tie.Need-enum-known-answer
 enum-known-answer c = search needs
@@ -44,11 +48,12 @@ load-right-requires : tie.Need-load-right-requires
 load-right-requires c κs =
     let told = c .before .before in
     let loads = told .before .before .before .before .before .before in
-    let start = loads .before .before .before .before .before .before .before .before .before .before .before in (
-      loaded-reading (start .args .left .now) _ _ (loads .load .result) _ _ (loads .load .ensures)
-          (told .enum-told .given .1),
-      start .pre .1,
-      start .pre .3,
+    let short-right = loads .before .before .before .before .before in
+    let start = short-right .before .before .before .before .before .before .before .before in (
+      loaded-reading (start .args .left .now) _ _ (loads .judge .result) _ _
+          (loads .judge .ensures ∙ measured-load _ _ (start .pre .0 .left-text) _ _) (told .enum-told .given .1),
+      start .pre .0 .right-text,
+      start .pre .1 .right,
     )
 
 same-length : tie.Need-same-length
@@ -62,11 +67,12 @@ returns-3 c =
     let marks = c .before in
     let told = marks .before .before in
     let loads = told .before .before .before .before .before .before in
-    let short-right = loads .before .before .before in
+    let short-right = loads .before .before .before .before .before in
     let short-left = short-right .before in
     let start = short-left .before .before .before .before .before .before .before in
     left-refused (start .args .left .now) (start .args .right .now) (short-left .if1 .left)
-    (short-right .if2 .left) _ _ (loads .load .result) _ _ (loads .load .ensures) _ _ _ _ _
+    (short-right .if2 .left) _ _ (loads .judge .result) _ _
+    (loads .judge .ensures ∙ measured-load _ _ (start .pre .0 .left-text) _ _) _ _ _ _ _
     (told .answer .given .1) (marks .in-file .ensures) (c .refused3 .ensures)
 
 same-length-3 : tie.Need-same-length-3
@@ -86,12 +92,16 @@ returns-4 c =
     let ends = c .before .before .before .before in
     let told = ends .before .before .before in
     let loads = told .before .before .before .before .before .before in
-    let short-right = loads .before .before .before in
+    let short-right = loads .before .before .before .before .before in
     let short-left = short-right .before in
     let start = short-left .before .before .before .before .before .before .before in
-    both-read (start .args .left .now) (start .args .right .now) (short-left .if1 .left)
-    (short-right .if2 .left) _ _ (loads .load .result) _ _ (loads .load .ensures) _ _ _
-    (told .enum-told .given .1) (start .pre .0) (start .pre .2) (ends .load-right .ensures)
+    let text = start .args .left .now in
+    let loaded = loads .judge .ensures ∙ measured-load text _ (start .pre .0 .left-text) _ _ in
+    let accepted = loaded-reading text _ _ (loads .judge .result) _ _ loaded (told .enum-told .given .1) in
+    let states = measured-states text _ (start .pre .0 .left-text) (answer-is text _ accepted) in
+    both-read text (start .args .right .now) (short-left .if1 .left) (short-right .if2 .left) _ _
+    (loads .judge .result) _ _ loaded _ _ _ (told .enum-told .given .1) _ states (start .pre .1 .left)
+    (ends .load-right .ensures)
 
 pub load-two-spec : {M : Type 1} → statement M
 load-two-spec =
@@ -101,7 +111,7 @@ load-two-spec =
     returns
     refused-requires-2
     returns-2
-    load-requires
+    judge-requires
     enum-known-answer
     in-file-requires
     refused-requires-3

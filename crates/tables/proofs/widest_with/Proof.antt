@@ -1,0 +1,91 @@
+-- The outcome goes by codes 1 to 12, then by what `made` promises.
+use borrow.Author.Needs.{needs}
+use Rattle.two_prepare.specs.Callers.{ready-two, loaded-two}
+use Rattle.tables.specs.Paths.{widest-refused, widest-done}
+use Rattle.tables.proofs.widest_with.Statement.{statement}
+use Rattle.tables.proofs.widest_with.Tie as tie
+
+load-two-requires : tie.Need-load-two-requires
+load-two-requires c κs = search needs
+
+enum-known-answer : tie.Need-enum-known-answer
+enum-known-answer c = search needs
+
+enum-told : tie.Need-enum-told
+enum-told c = search needs
+
+made-requires : tie.Need-made-requires
+made-requires c κs =
+    let start = c .before .before .before .before .before .before .before .before .before .before .before .before .before .before .before .before .before .before .before .before .before .before .before .before .before .before .before .before .before in
+    let loads = c .before .before .before .before .before .before .before .before .before .before .before .before .before .before .before .before .load-two in
+    let told = c .before .before .before .before .before .before .enum-told .given .1 in (
+      ready-two (start .args .left .now) (start .args .right .now) _ _ _ _ (loads .result) (loads .ensures) told,
+      loaded-two (start .args .left .now) (start .args .right .now) _ _ _ _ (loads .result) (loads .ensures) told
+          .right-bits,
+    )
+
+same-length : tie.Need-same-length
+same-length c = search needs
+
+same-length-2 : tie.Need-same-length-2
+same-length-2 c = search needs
+
+same-length-3 : tie.Need-same-length-3
+same-length-3 c = search needs
+
+same-length-4 : tie.Need-same-length-4
+same-length-4 c = search needs
+
+returns : tie.Need-returns
+returns c =
+    let start = c .before .before .before .before .before .before .before .before .before .before .before .before .before .before .before .before .before .before .before .before .before .before .before .before in
+    let loads = c .before .before .before .before .before .before .before .before .before .before .before .load-two in
+    widest-refused (start .args .left .now) (start .args .right .now) _ _ _ _ (loads .result) (loads .ensures)
+    (start .args .keep .now) (start .args .table .now) _ (c .before .answer .given .1)
+
+same-length-5 : tie.Need-same-length-5
+same-length-5 c = search needs
+
+same-length-6 : tie.Need-same-length-6
+same-length-6 c = search needs
+
+same-length-7 : tie.Need-same-length-7
+same-length-7 c = search needs
+
+same-length-8 : tie.Need-same-length-8
+same-length-8 c = search needs
+
+same-length-9 : tie.Need-same-length-9
+same-length-9 c = search needs
+
+same-length-10 : tie.Need-same-length-10
+same-length-10 c = search needs
+
+returns-2 : tie.Need-returns-2
+returns-2 c =
+    let start = c .before .before .before .before .before .before .before .before .before .before .before .before .before .before .before .before .before .before .before .before .before .before .before .before .before .before .before .before .before .before .before .before .before .before .before .before in
+    let loads = c .before .before .before .before .before .before .before .before .before .before .before .before .before .before .before .before .before .before .before .before .before .before .before .load-two in
+    widest-done (start .args .left .now) (start .args .right .now) _ _ _ _ (loads .result) (loads .ensures)
+    (start .args .keep .now) (start .args .table .now) (c .before .before .before .before .before .before .before .before .before .before .before .before .before .enum-told .given .1) _
+    (c .before .before .before .before .before .before .made .ensures)
+
+pub widest-with-spec : {M : Type 1} → statement M
+widest-with-spec =
+    tie.close
+    (tie.spec
+    load-two-requires
+    enum-known-answer
+    enum-told
+    made-requires
+    same-length
+    same-length-2
+    same-length-3
+    same-length-4
+    returns
+    same-length-5
+    same-length-6
+    same-length-7
+    same-length-8
+    same-length-9
+    same-length-10
+    returns-2)
