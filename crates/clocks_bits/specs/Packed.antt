@@ -1,16 +1,14 @@
 -- A bitmap that holds a table of n entries in its first bytes, spare bits 0.
-use mathlib.Core.Path.{_≡_, refl, sym, subst, ap, _∙_}
-use mathlib.Core.Logic.{_⊎_, inl, inr, ⊎-elim, _≢_}
-use mathlib.Core.Bool.{Bool, true, false, not}
+use mathlib.Core.Path.{_≡_, refl, sym, ap, _∙_}
+use mathlib.Core.Bool.{Bool, true, false}
 use mathlib.Core.List.{List, [], _∷_}
-use Prim.Native.Nat.{ℕ, zero, suc, _+_, _-_, _*_, _/_, _%_, _^_, _≤_, _<_}
+use Prim.Native.Nat.{ℕ, zero, suc, _+_, _-_, _/_, _%_, _^_, _≤_, _<_}
 use native.Mathlib.Numerals.{add-one}
 use native.Mathlib.Omega.{arith}
-use lib.Dec.{T}
 use lib.ListN.{length, getD, set, length-set, drop, drop-of-length-le}
 use lib.Seq.{getD-set-same, getD-set-other, ext-getD, drop-cons}
 use Rattle.systems.specs.Tests.{at, ones}
-use Rattle.clocks_bits.specs.Bits.{bit-at, num, written-is, written-same, byte-of, written, written-at, written-past, written-length, bit-of, Cleared, clear-is}
+use Rattle.clocks_bits.specs.Bits.{bit-at, num, written-is, written-same, byte-of, written, written-at, written-past, written-length, bit-of, clear-is}
 
 -- the bytes that n bits take
 abbrev pub bytes : ℕ → ℕ

@@ -1,7 +1,7 @@
 // Bitmaps, the high bit of byte 0 first, and the mark of a missing move.
 ghost use mathlib.Core.Path.{_≡_};
 ghost use mathlib.Core.Bool.{true, false};
-ghost use Prim.Native.Nat.{ℕ, _+_, _-_, _*_, _/_, _%_, _^_, _≤_, _<_};
+ghost use Prim.Native.Nat.{ℕ, _+_, _-_, _/_, _%_, _^_, _≤_, _<_};
 ghost use lib.ListN.{length, getD, set};
 ghost use Rattle.clocks_bits.specs.Bits.{bit-at, num, written};
 ghost use Rattle.clocks_bits.specs.Moves.{most-pairs};

@@ -1,17 +1,13 @@
 -- What an accepted reading says of the record, and conversely.
 use mathlib.Core.Path.{_≡_, refl, sym, ap, _∙_}
-use mathlib.Core.Logic.{_↔_}
-use mathlib.Core.Bool.{Bool, true, false}
+use mathlib.Core.Bool.{false}
 use mathlib.Core.List.{List}
-use Prim.Native.Nat.{ℕ, _≤_}
+use Prim.Native.Nat.{ℕ}
 use native.Mathlib.Omega.{arith}
-use lib.Dec.{ltb}
 use borrow.Author.Tests.{le-ltb}
 use Rattle.reader_record.specs.declared.Text.{Text}
-use Rattle.reader_record.specs.Formed.{Well-formed}
 use Rattle.reader.specs.declared.Answer.{Answer}
 use Rattle.reader.specs.declared.Answer.the-variants as parsed
-use Rattle.reader.specs.declared.Parsed.{Parsed}
 use Rattle.reader.specs.Reading.{read-text}
 use Rattle.reader_formed.specs.Formed.{read-formed}
 use Rattle.clocks_bits.specs.Bits.{written}
@@ -21,10 +17,8 @@ use Rattle.clocks.specs.declared.Judged.the-variants.{Clean, TooMany, NoMove, T
 use Rattle.clocks.specs.States.{state-count, too-many, judgement, table-entry, table-size, judged-table, invariants, judged-holds}
 use Rattle.clocks.specs.Accepted as accepted
 use Rattle.clocks.specs.Judgement.{judgement-few}
-use Rattle.clocks_read.specs.declared.ReadAnswer.{ReadAnswer}
 use Rattle.clocks_read.specs.declared.ReadAnswer.the-variants.{Accepted, Refused}
-use Rattle.clocks_read.specs.declared.Reading.{Reading}
-use Rattle.clocks_read.specs.Reading.{refused, judged-reading, parsed-reading, read-outcome, Loading, judged-loading, parsed-loading, load-outcome}
+use Rattle.clocks_read.specs.Reading.{refused, judged-reading, parsed-reading, read-outcome, judged-loading, parsed-loading, load-outcome}
 use Rattle.reader_record.specs.Limits.{state-limit}
 
 -- what an accepted reading of the text s says

@@ -11,7 +11,6 @@ use Rattle.reader.specs.Reading.{read-text}
 use Rattle.clocks.specs.declared.Judged.{Judged}
 use Rattle.clocks.specs.declared.Judged.the-variants.{Clean, TooMany, NoMove, TwoEdges}
 use Rattle.clocks.specs.States.{state-count, judgement, judged-table, judged-holds}
-use Rattle.clocks_read.specs.declared.ReadAnswer.{ReadAnswer}
 use Rattle.clocks_read.specs.declared.ReadAnswer.the-variants.{Accepted, Refused}
 use Rattle.clocks_read.specs.declared.Reading.{Reading}
 

@@ -6,8 +6,6 @@ use reader::Parsed;
 use reader_record::Text;
 use refusals::Refusal;
 ghost use mathlib.Core.Path.{_≡_};
-ghost use mathlib.Core.List.{List};
-ghost use Prim.Native.Nat.{ℕ, _≤_};
 ghost use lib.ListN.{length};
 ghost use Rattle.clocks.specs.States.{state-count, table-limit, bytes-limit};
 ghost use Rattle.clocks_table.specs.Judge.{Room};

@@ -1,18 +1,17 @@
 -- What holds while states are taken out of a bitmap, and that what is left in the end are the safe states.
 use mathlib.Core.Path.{_≡_, refl, sym, subst, ap, _∙_}
 use mathlib.Core.Logic.{_↔_, _⊎_, inl, inr, ⊎-elim, _≢_}
-use mathlib.Core.Bool.{Bool, true, false, not, _&&_, _||_}
+use mathlib.Core.Bool.{Bool, true, false, not}
 use mathlib.Core.List.{List, [], _∷_}
-use Prim.Native.Nat.{ℕ, zero, suc, _+_, _-_, _*_, _/_, _%_, _^_, _≤_, _<_}
+use Prim.Native.Nat.{ℕ, zero, suc, _-_, _/_, _%_, _^_, _≤_, _<_}
 use native.Mathlib.Decide.{ℕ-discrete}
 use native.Mathlib.Omega.{arith}
-use lib.Dec.{T, T-not}
-use lib.ListN.{length, getD, set, drop, replicate, length-replicate, length-set, List·getD-eq-default, drop-of-length-le}
-use lib.Seq.{getD-set-other, getD-set-same, ext-getD, drop-cons}
-use native.Mathlib.Numerals.{add-one}
-use Rattle.systems.specs.Bools.{T-true, T-false, T-dec}
+use lib.Dec.{T}
+use lib.ListN.{length, getD, set, replicate, length-replicate, List·getD-eq-default}
+use lib.Seq.{getD-set-other, ext-getD}
+use Rattle.systems.specs.Bools.{T-true}
 use Rattle.systems.specs.Tests.{at, ones, table, sieve, stage, round}
-use Rattle.systems.specs.Sieve.{at-table, ones-table, Between, between-start, between-clear, between-done}
+use Rattle.systems.specs.Sieve.{ones-table, Between, between-start, between-clear, between-done}
 use Rattle.systems.specs.Definitions.{Signature}
 use Rattle.systems.specs.Finite.{Finite-system, safe-test, safe-states}
 use Rattle.systems.specs.Safe.{safe-rule}

@@ -1,24 +1,20 @@
 -- The test of a safe state, on slices.
 use mathlib.Core.Path.{_≡_, refl, sym, subst, ap, _∙_}
-use mathlib.Core.Logic.{_⊎_, inl, inr, ⊎-elim, _≢_}
 use mathlib.Core.Bool.{Bool, true, false, cond, not, _&&_, _||_}
 use mathlib.Core.Option.{Option, none, some}
 use mathlib.Core.List.{List}
-use Prim.Native.Nat.{ℕ, zero, suc, _+_, _-_, _*_, _/_, _%_, _^_, _≤_, _<_}
+use Prim.Native.Nat.{ℕ, zero, suc, _+_, _*_, _≤_, _<_}
 use native.Mathlib.Numerals.{add-one}
 use native.Mathlib.Omega.{arith}
-use lib.Dec.{T, T-not}
+use lib.Dec.{T}
 use lib.ListN.{length, getD, set}
-use lib.Seq.{getD-set-other}
-use Rattle.systems.specs.Bools.{T-true, T-false, T-dec, all-elim, all-intro, any-intro, any-elim}
-use Rattle.systems.specs.Tests.{all, any, _⇒_, stays, lands, at, ones, table, sieve, stage, round}
-use Rattle.systems.specs.Sieve.{at-table, ones-table, Between, between-start, between-clear, between-done}
+use Rattle.systems.specs.Bools.{T-true, any-intro}
+use Rattle.systems.specs.Tests.{all, any, _⇒_, stays, lands, at}
 use Rattle.systems.specs.Definitions.{Signature}
-use Rattle.systems.specs.Finite.{Finite-system, input-stays, own-lands, safe-test, safe-states}
-use Rattle.systems.specs.Safe.{safe-rule}
+use Rattle.systems.specs.Finite.{Finite-system, input-stays, own-lands, safe-test}
 use Rattle.clocks_bits.specs.Bits.{bit-at}
-use Rattle.clocks_bits.specs.Moves.{decode, decode-inside, Encodes, Encoded, Bounded}
-use Rattle.clocks_bits.specs.Packed.{Packed, packed, packed-bit, packed-clear, packed-unique, ones-clear, bytes}
+use Rattle.clocks_bits.specs.Moves.{decode, decode-inside, Encoded, Bounded}
+use Rattle.clocks_bits.specs.Packed.{Packed, packed-bit, bytes}
 
 unfoldable pub input-passes : (ℕ → Bool) → ℕ → Bool → Bool
 input-passes p t input = input ⇒ stays p (decode t)

@@ -1,10 +1,9 @@
 ghost use mathlib.Core.Path.{_≡_};
-ghost use mathlib.Core.Bool.{Bool, true, false, not, _&&_};
-ghost use mathlib.Core.List.{List};
-ghost use Prim.Native.Nat.{ℕ, _+_, _-_, _*_, _/_, _%_, _^_, _≤_, _<_};
-ghost use lib.ListN.{length, getD, set};
+ghost use mathlib.Core.Bool.{true, false};
+ghost use Prim.Native.Nat.{_+_, _*_, _/_, _≤_, _<_};
+ghost use lib.ListN.{length, set};
 ghost use Rattle.clocks_bits.specs.Bits.{bit-at};
-ghost use Rattle.clocks_bits.specs.Moves.{Bounded, Encoded, no-move};
+ghost use Rattle.clocks_bits.specs.Moves.{Bounded, no-move};
 ghost use Rattle.clocks_bits.specs.Packed.{bytes, Counted, Bitmap};
 ghost use Rattle.clocks_safe.specs.Test.{input-passes, own-passes, decides, some-decides, passes, Visits};
 ghost use Rattle.clocks_safe.specs.Settle.{Visited, Settled, Safe-answer};

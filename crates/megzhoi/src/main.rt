@@ -21,7 +21,7 @@ fn put_part(s: &[u8], place: usize, len: usize) {
 // A channel's name as the left writes it, with its mark.
 fn put_channel(left: &[u8], k: Channel) {
     let name = k.name;
-    put_part(left, name.place, name.len);
+    put_part(left, name.place as usize, name.len as usize);
     let d = k.direction;
     match d {
         Direction::Input => programs::put(b"?\n"),

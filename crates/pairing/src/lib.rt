@@ -1,12 +1,12 @@
 // The channels of two texts, paired by name, and a move table by the other text's steps.
 ghost use mathlib.Core.Path.{_≡_};
-ghost use mathlib.Core.Bool.{Bool, true, false};
-ghost use Prim.Native.Nat.{ℕ, _+_, _-_, _*_, _≤_, _<_};
+ghost use mathlib.Core.Bool.{false};
+ghost use Prim.Native.Nat.{_+_, _-_, _*_, _≤_, _<_};
 ghost use lib.ListN.{length, replicate};
 ghost use Rattle.reader_record.specs.Formed.{Well-formed};
 ghost use Rattle.reader_record.specs.Limits.{channel-limit};
 ghost use Rattle.clocks_bits.specs.Bits.{tab-from, written};
-ghost use Rattle.pairing.specs.Channels.{name-of, alike, partner, agree, matched, first-unmatched, verdict, right-step, pairing, most-steps};
+ghost use Rattle.pairing.specs.Channels.{partner, agree, matched, first-unmatched, verdict, right-step, pairing, most-steps};
 ghost use Rattle.pairing.specs.Only.{only, channels-of};
 ghost use Rattle.pairing.specs.Table.{renumbered, row-entry, Renumbering, Row-there, Steps-there, Row-written};
 use reader_record::CHANNEL_LIMIT;
@@ -48,11 +48,14 @@ fn partner_of(s: &[u8], name: Name, u: &[u8], r: Channels) -> usize
     requires { ⌜ r .count ≤ channel-limit ⌝ }
     ensures { λ d. ⌜ d ≡ partner (now (s .entry)) name (now (u .entry)) (only r) ⌝ }
 {
+    let place = name.place as usize;
+    let len = name.len as usize;
     let mut d: usize = 1;
     while d <= r.count {
         let k = r.list[d - 1];
         let n = k.name;
-        if reader_tokens::is_same(s, name.place, name.len, u, n.place, n.len) {
+        let at = n.place as usize;
+        if reader_tokens::is_same(s, place, len, u, at, n.len as usize) {
             return d;
         }
         d += 1;

@@ -1,7 +1,9 @@
 // Reads a contract text into its record, or refuses it with one of document 01's codes 1 to 8.
 ghost use mathlib.Core.Path.{_≡_};
-ghost use mathlib.Core.Bool.{Bool, true, false};
-ghost use Prim.Native.Nat.{ℕ, _+_, _-_, _≤_, _<_};
+ghost use mathlib.Core.Bool.{false};
+ghost use Prim.Native.Nat.{_≤_, _<_};
+ghost use lib.ListN.{length};
+ghost use Rattle.reader_record.specs.Limits.{largest-text};
 ghost use Rattle.reader_lists.specs.Turns.{item, state-of};
 ghost use Rattle.reader_lists.specs.Heads.{no-edges, before-edges, with-rest, Reads-head, Reads-edges};
 ghost use Rattle.reader.specs.Reading.{start, channel-part, process-part, clock-part, location-part, init-part};
@@ -57,6 +59,7 @@ fn start() -> HeadRead
 // An optional list. `word` is the first of the words that open it, and `opened` is how far the reader has come past
 // them, which counts only where the list is there.
 fn list_part(s: &[u8], r: HeadRead, word: usize, opened: Status, k: Named) -> HeadRead
+    requires { ⌜ length (now s) ≤ largest-text ⌝ }
     ensures { λ q. ⌜ Reads-head (list-past word opened (item k) (now (s .entry))) r q ⌝ }
 {
     let st = r.status;
@@ -68,6 +71,7 @@ fn list_part(s: &[u8], r: HeadRead, word: usize, opened: Status, k: Named) -> He
 
 // Optional `broadcast chan` names `;`.
 fn channel_part(s: &[u8], r: HeadRead) -> HeadRead
+    requires { ⌜ length (now s) ≤ largest-text ⌝ }
     ensures { λ q. ⌜ Reads-head (channel-part (now (s .entry))) r q ⌝ }
 {
     let st = r.status;
@@ -78,6 +82,7 @@ fn channel_part(s: &[u8], r: HeadRead) -> HeadRead
 
 // `process` name `( ) {`.
 fn process_part(s: &[u8], st: Status, names: [Name; NAME_SLOTS]) -> Declaration
+    requires { ⌜ length (now s) ≤ largest-text ⌝ }
     ensures { λ d. ⌜ Reads-any (process-part (now (s .entry))) (state-of st names) (state-of (d .status) (d .names)) ⌝ }
 {
     let a = reader_parts::take(s, st, reader_tokens::PROCESS);
@@ -97,6 +102,7 @@ fn process_part(s: &[u8], st: Status, names: [Name; NAME_SLOTS]) -> Declaration
 
 // Optional `clock` names `;`.
 fn clock_part(s: &[u8], r: HeadRead) -> HeadRead
+    requires { ⌜ length (now s) ≤ largest-text ⌝ }
     ensures { λ q. ⌜ Reads-head (clock-part (now (s .entry))) r q ⌝ }
 {
     let st = r.status;
@@ -106,6 +112,7 @@ fn clock_part(s: &[u8], r: HeadRead) -> HeadRead
 
 // `state` locations `;`.
 fn location_part(s: &[u8], r: HeadRead) -> HeadRead
+    requires { ⌜ length (now s) ≤ largest-text ⌝ }
     ensures { λ q. ⌜ Reads-head (location-part (now (s .entry))) r q ⌝ }
 {
     let st = r.status;
@@ -115,6 +122,7 @@ fn location_part(s: &[u8], r: HeadRead) -> HeadRead
 
 // The parts before `init`.
 fn read_head(s: &[u8]) -> HeadRead
+    requires { ⌜ length (now s) ≤ largest-text ⌝ }
     ensures { λ r. ⌜ with-rest r 0 no-edges 0 ≡ read-head (now (s .entry)) ⌝ }
 {
     let a = start();
@@ -136,6 +144,7 @@ fn read_head(s: &[u8]) -> HeadRead
 
 // `init` name `;`.
 fn init_part(s: &[u8], st: Status, names: [Name; NAME_SLOTS]) -> Use
+    requires { ⌜ length (now s) ≤ largest-text ⌝ }
     ensures { λ u. ⌜ Reads-any (init-part (now (s .entry))) (state-of st names) (started names u) ⌝ }
 {
     let a = reader_parts::take(s, st, reader_tokens::INIT);
@@ -156,6 +165,7 @@ fn edge_part(
     names: [Name; NAME_SLOTS],
     channels: [Channel; CHANNEL_LIMIT],
 ) -> EdgesRead
+    requires { ⌜ length (now s) ≤ largest-text ⌝ }
     ensures { λ r. ⌜ Reads-edges (edge-part (now (s .entry))) names (before-edges st channels) r ⌝ }
 {
     if reader_parts::ahead(s, st, reader_tokens::TRANS) {
@@ -167,6 +177,7 @@ fn edge_part(
 
 // `} system` name `;` and the end of the text.
 fn end_part(s: &[u8], st: Status, names: [Name; NAME_SLOTS]) -> Status
+    requires { ⌜ length (now s) ≤ largest-text ⌝ }
     ensures { λ r. ⌜ Reads-any (end-part (now (s .entry))) (state-of st names) (state-of r names) ⌝ }
 {
     let a = reader_parts::take(s, st, reader_tokens::CLOSE);
@@ -217,6 +228,7 @@ fn refused(f: Fault) -> Parsed
 
 // The parts in their order, and the record put together where all of them fit.
 fn read_whole(s: &[u8]) -> Parsed
+    requires { ⌜ length (now s) ≤ largest-text ⌝ }
     ensures { λ r. ⌜ r ≡ answer (read-whole (now (s .entry)) .status) (read-whole (now (s .entry)) .text) ⌝ }
 {
     let r = read_head(s);

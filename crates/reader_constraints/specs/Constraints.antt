@@ -11,7 +11,6 @@ use Rattle.reader_tokens.specs.declared.Token.{Token}
 use Rattle.reader_record.specs.Limits.{clock-limit, comparison-limit, largest-constant}
 use Rattle.reader_record.specs.Record.{no-comparison}
 use Rattle.reader_record.specs.declared.Name.{Name}
-use Rattle.reader_record.specs.declared.Sign.{Sign}
 use Rattle.reader_record.specs.declared.Sign.the-variants.{AtMost, AtLeast, Equal}
 use Rattle.reader_record.specs.declared.Comparison.{Comparison}
 use Rattle.reader_record.specs.declared.Constraint.{Constraint}

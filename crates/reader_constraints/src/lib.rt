@@ -1,8 +1,9 @@
 // Guards and invariants: comparisons joined by `&&`.
 ghost use mathlib.Core.Path.{_≡_};
-ghost use mathlib.Core.Bool.{Bool, true, false};
-ghost use Prim.Native.Nat.{ℕ, _+_, _-_, _≤_, _<_};
-ghost use Rattle.reader_record.specs.Limits.{comparison-limit};
+ghost use mathlib.Core.Bool.{true, false};
+ghost use Prim.Native.Nat.{_+_, _≤_, _<_};
+ghost use lib.ListN.{length};
+ghost use Rattle.reader_record.specs.Limits.{largest-text, comparison-limit};
 ghost use Rattle.reader_constraints.specs.Constraints.{no-amount, constant, no-sign, sign-next, comparison, no-constraint, with-comparison, constraint, guard, invariant};
 use reader_parts::FIRST_CLOCK;
 use reader_parts::Fault;
@@ -127,6 +128,7 @@ fn comparison(
     invariant: bool,
     over: bool,
 ) -> ComparisonRead
+    requires { ⌜ length (now s) ≤ largest-text ⌝ }
     ensures { λ r. ⌜ r ≡ comparison (now (s .entry)) st names invariant over ⌝ }
 {
     let clock = reader_parts::use_name(s, st, names, FIRST_CLOCK, CLOCK_LIMIT, over);
@@ -189,6 +191,7 @@ fn constraint(
     invariant: bool,
     closing: usize,
 ) -> ConstraintRead
+    requires { ⌜ length (now s) ≤ largest-text ⌝ }
     ensures { λ r. ⌜ r ≡ constraint (now (s .entry)) st names invariant closing ⌝ }
 {
     let mut c = no_constraint();
@@ -219,6 +222,7 @@ fn constraint(
 
 // An optional `guard` with its comparisons and `;`.
 pub fn guard(s: &[u8], st: Status, names: [Name; NAME_SLOTS]) -> ConstraintRead
+    requires { ⌜ length (now s) ≤ largest-text ⌝ }
     ensures { λ r. ⌜ r ≡ guard (now (s .entry)) st names ⌝ }
 {
     if reader_parts::ahead(s, st, reader_tokens::GUARD) {
@@ -234,6 +238,7 @@ pub fn guard(s: &[u8], st: Status, names: [Name; NAME_SLOTS]) -> ConstraintRead
 
 // An optional `{` with its comparisons and `}`.
 pub fn invariant(s: &[u8], st: Status, names: [Name; NAME_SLOTS]) -> ConstraintRead
+    requires { ⌜ length (now s) ≤ largest-text ⌝ }
     ensures { λ r. ⌜ r ≡ invariant (now (s .entry)) st names ⌝ }
 {
     if reader_parts::ahead(s, st, reader_tokens::OPEN) {

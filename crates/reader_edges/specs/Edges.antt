@@ -1,13 +1,12 @@
 -- "An edge is `A -> B {` optional `guard` comparisons `;` then `sync` channel `?` or `!` `;` then optional `assign`
 -- clock `= 0` items joined by commas `;` and `}`."
-use mathlib.Core.Bool.{Bool, true, false, cond}
+use mathlib.Core.Bool.{Bool, false}
 use mathlib.Core.List.{List}
 use Prim.Native.Nat.{ℕ}
 use Rattle.reader_tokens.specs.Kinds as kinds
 use Rattle.reader_record.specs.Limits.{location-limit}
 use Rattle.reader_record.specs.declared.Name.{Name}
 use Rattle.reader_record.specs.declared.Channel.{Channel}
-use Rattle.reader_record.specs.declared.Edge.{Edge}
 use Rattle.reader_parts.specs.declared.Status.{Status}
 use Rattle.reader_parts.specs.Status.{take}
 use Rattle.reader_parts.specs.Names.{use-name}

@@ -19,7 +19,6 @@ use Rattle.reader_parts.specs.Names.{use-name}
 use Rattle.reader_parts.specs.Slots.{first-clock}
 use Rattle.reader_parts.specs.Progress.{left, left-all, past-token, take-less, take-no-more, use-no-more}
 use Rattle.reader_edges.specs.declared.AssignRead.{AssignRead}
-use Rattle.reader_edges.specs.declared.AssignsRead.{AssignsRead}
 use Rattle.reader_edges.specs.Assigns.{zero-of, zero-next, assign-next, assigns-from, items}
 
 module _ (s : List ℕ) where

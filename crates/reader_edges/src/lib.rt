@@ -1,9 +1,9 @@
 // An edge: `A -> B {` optional guard, label, optional assignments `}`.
 ghost use mathlib.Core.Path.{_≡_};
-ghost use mathlib.Core.Bool.{Bool, true, false};
-ghost use Prim.Native.Nat.{ℕ, _+_, _-_, _≤_, _<_};
-ghost use lib.ListN.{length, getD, set};
-ghost use Rattle.reader_record.specs.Limits.{channel-limit};
+ghost use mathlib.Core.Bool.{true, false};
+ghost use Prim.Native.Nat.{_+_, _≤_, _<_};
+ghost use lib.ListN.{length, getD};
+ghost use Rattle.reader_record.specs.Limits.{largest-text, channel-limit};
 ghost use Rattle.reader_record.specs.Record.{no-channel};
 ghost use Rattle.reader_edges.specs.Labels.{no-mark, mark-next, fits, judged, label-of, label-next};
 ghost use Rattle.reader_edges.specs.Assigns.{zero-next, assign-next, no-resets, items, assigns};
@@ -124,6 +124,7 @@ fn label_next(
     names: [Name; NAME_SLOTS],
     channels: [Channel; CHANNEL_LIMIT],
 ) -> LabelRead
+    requires { ⌜ length (now s) ≤ largest-text ⌝ }
     ensures { λ r. ⌜ r ≡ label-next (now (s .entry)) st names channels ⌝ }
 {
     let synced = reader_parts::take(s, st, reader_tokens::SYNC);
@@ -175,6 +176,7 @@ pub struct AssignRead {
 
 // A clock, `=` and 0.
 fn assign_next(s: &[u8], st: Status, names: [Name; NAME_SLOTS]) -> AssignRead
+    requires { ⌜ length (now s) ≤ largest-text ⌝ }
     ensures { λ r. ⌜ r ≡ assign-next (now (s .entry)) st names ⌝ }
 {
     let clock = reader_parts::use_name(s, st, names, FIRST_CLOCK, CLOCK_LIMIT, false);
@@ -200,6 +202,7 @@ pub struct AssignsRead {
 
 // Items joined by commas, then `;`. Each comma that is taken leaves fewer bytes.
 fn assign_items(s: &[u8], st: Status, names: [Name; NAME_SLOTS]) -> AssignsRead
+    requires { ⌜ length (now s) ≤ largest-text ⌝ }
     ensures { λ r. ⌜ r ≡ items (now (s .entry)) names st no-resets ⌝ }
 {
     let mut resets = [false; CLOCK_LIMIT];
@@ -222,6 +225,7 @@ fn assign_items(s: &[u8], st: Status, names: [Name; NAME_SLOTS]) -> AssignsRead
 
 // An optional `assign` with its items and `;`.
 fn assigns(s: &[u8], st: Status, names: [Name; NAME_SLOTS]) -> AssignsRead
+    requires { ⌜ length (now s) ≤ largest-text ⌝ }
     ensures { λ r. ⌜ r ≡ assigns (now (s .entry)) st names ⌝ }
 {
     if reader_parts::ahead(s, st, reader_tokens::ASSIGN) {
@@ -250,6 +254,7 @@ pub fn edge_next(
     channels: [Channel; CHANNEL_LIMIT],
     over: bool,
 ) -> EdgeRead
+    requires { ⌜ length (now s) ≤ largest-text ⌝ }
     ensures { λ r. ⌜ r ≡ edge-next (now (s .entry)) st names channels over ⌝ }
 {
     let source = reader_parts::use_name(s, st, names, FIRST_LOCATION, LOCATION_LIMIT, over);

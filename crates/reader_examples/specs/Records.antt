@@ -12,9 +12,7 @@ use Rattle.reader_record.specs.declared.Direction.the-variants as direction
 use Rattle.reader_record.specs.declared.Channel.{Channel}
 use Rattle.reader_record.specs.declared.Sign.{Sign}
 use Rattle.reader_record.specs.declared.Sign.the-variants.{AtMost, AtLeast}
-use Rattle.reader_record.specs.declared.Comparison.{Comparison}
 use Rattle.reader_record.specs.declared.Constraint.{Constraint}
-use Rattle.reader_record.specs.declared.Location.{Location}
 use Rattle.reader_record.specs.declared.Label.{Label}
 use Rattle.reader_record.specs.declared.Label.the-variants.{Input, Output}
 use Rattle.reader_record.specs.declared.Edge.{Edge}

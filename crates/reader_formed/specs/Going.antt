@@ -8,6 +8,7 @@ use borrow.Author.Tests.{eqb-true, ltb-false}
 use Rattle.reader_record.specs.Limits.{largest-name}
 use Rattle.reader_tokens.specs.Kinds as kinds
 use Rattle.reader_tokens.specs.Tokens.{token-at}
+use Rattle.reader_tokens.specs.Spans.{Spans, name-spans}
 use Rattle.reader_tokens.specs.declared.Token.{Token}
 use Rattle.reader_parts.specs.declared.Status.{Status}
 use Rattle.reader_parts.specs.declared.Status.the-variants.{At, Refused}
@@ -15,7 +16,6 @@ use Rattle.reader_parts.specs.declared.NameRead.{NameRead}
 use Rattle.reader_parts.specs.Status.{take, name-of, name-next}
 use Rattle.reader_formed.specs.Promise.{Within}
 use Rattle.reader_formed.specs.Cases.{split}
-use Rattle.reader_formed.specs.Spans.{Spans, name-spans}
 
 -- the reader has refused nothing yet
 abbrev pub Going : Status → Type 0

@@ -1,6 +1,5 @@
 pub mod Promise
 pub mod Cases
-pub mod Spans
 pub mod Going
 pub mod Declared
 pub mod Slots

@@ -1,5 +1,5 @@
 -- What the reader has read: how far it has come, the declared names by their slots, and the record so far.
-use mathlib.Core.Bool.{Bool, true, false, cond}
+use mathlib.Core.Bool.{Bool, cond}
 use mathlib.Core.List.{List}
 use Prim.Native.Nat.{ℕ, _+_}
 use lib.ListN.{getD, set, replicate}
@@ -11,10 +11,8 @@ use Rattle.reader_record.specs.declared.Direction.{Direction}
 use Rattle.reader_record.specs.declared.Direction.the-variants as direction
 use Rattle.reader_record.specs.declared.Label.the-variants as label
 use Rattle.reader_record.specs.declared.Constraint.{Constraint}
-use Rattle.reader_record.specs.declared.Location.{Location}
 use Rattle.reader_record.specs.declared.Edge.{Edge}
 use Rattle.reader_record.specs.declared.Text.{Text}
-use Rattle.reader_parts.specs.declared.Status.{Status}
 use Rattle.reader_parts.specs.Status.{take}
 use Rattle.reader_constraints.specs.Constraints.{no-constraint}
 use Rattle.reader_edges.specs.Assigns.{no-resets}

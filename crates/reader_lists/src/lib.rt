@@ -1,9 +1,9 @@
 // The lists of a text: channels, clocks, locations and edges, joined by commas.
 ghost use mathlib.Core.Path.{_≡_};
-ghost use mathlib.Core.Bool.{Bool, true, false};
-ghost use Prim.Native.Nat.{ℕ, _+_, _-_, _≤_, _<_};
-ghost use lib.ListN.{length, getD, set};
-ghost use Rattle.reader_record.specs.Limits.{channel-limit, clock-limit, location-limit, edge-limit};
+ghost use mathlib.Core.Bool.{true, false};
+ghost use Prim.Native.Nat.{_+_, _≤_, _<_};
+ghost use lib.ListN.{length};
+ghost use Rattle.reader_record.specs.Limits.{largest-text, channel-limit};
 ghost use Rattle.reader_lists.specs.State.{no-edge, no-text, direction-of, marked};
 ghost use Rattle.reader_lists.specs.Lists.{limit, items};
 ghost use Rattle.reader_lists.specs.Turns.{item, first-slot, count, unused, after-item};
@@ -268,6 +268,7 @@ fn head_read(st: Status, names: [Name; NAME_SLOTS], head: Head) -> HeadRead
 // The channels, clocks or locations, joined by commas, and `;`, from `start` on, where the words before them are read:
 // the status in r is not used. The head is written in place.
 pub fn named_items(s: &[u8], start: Status, r: HeadRead, k: Named) -> HeadRead
+    requires { ⌜ length (now s) ≤ largest-text ⌝ }
     ensures { λ q. ⌜ Reads-head (items (item k) (now (s .entry))) (head-read start (r .names) (r .head)) q ⌝ }
 {
     let mut st = start;
@@ -317,6 +318,7 @@ pub fn edges(
     names: [Name; NAME_SLOTS],
     given: [Channel; CHANNEL_LIMIT],
 ) -> EdgesRead
+    requires { ⌜ length (now s) ≤ largest-text ⌝ }
     ensures { λ r. ⌜ Reads-edges (items Item.Edge (now (s .entry))) names (before-edges start given) r ⌝ }
 {
     let mut st = start;

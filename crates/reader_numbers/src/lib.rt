@@ -16,7 +16,7 @@ use reader_record::Text;
 ghost use mathlib.Core.Path.{_≡_};
 ghost use mathlib.Core.Bool.{cond};
 ghost use mathlib.Core.List.{[], _∷_};
-ghost use Prim.Native.Nat.{ℕ, _≤_};
+ghost use Prim.Native.Nat.{_≤_};
 ghost use Rattle.reader_numbers.specs.Numbers.{put-at, rows, sign-number, direction-number, label-numbers};
 ghost use Rattle.reader_numbers.specs.Numbers.{comparison-numbers, constraint-numbers, channel-numbers};
 ghost use Rattle.reader_numbers.specs.Numbers.{location-numbers, edge-numbers, numbers};
@@ -135,7 +135,7 @@ fn write_channel(out: &mut [usize], at: usize, k: Channel)
     let name = k.name;
     let d = k.direction;
     let direction = direction_number(d);
-    put_three(out, at, name.place, name.len, direction);
+    put_three(out, at, name.place as usize, name.len as usize, direction);
 }
 
 fn write_location(out: &mut [usize], at: usize, l: Location)
@@ -143,7 +143,7 @@ fn write_location(out: &mut [usize], at: usize, l: Location)
     ensures { λ _. ⌜ now (out .exit) ≡ put-at (now (out .entry)) at (location-numbers l) ⌝ }
 {
     let name = l.name;
-    put_two(out, at, name.place, name.len);
+    put_two(out, at, name.place as usize, name.len as usize);
     let g = l.invariant;
     write_constraint(out, at + 2, g);
 }
@@ -181,7 +181,9 @@ fn write_clocks(out: &mut [usize], t: Text)
     let mut i: usize = 0;
     while i < CLOCK_LIMIT {
         let name = t.clocks[i];
-        put_two(out, CLOCKS + i * CLOCK_NUMBERS, name.place, name.len);
+        let place = name.place as usize;
+        let len = name.len as usize;
+        put_two(out, CLOCKS + i * CLOCK_NUMBERS, place, len);
         i += 1;
     }
 }

@@ -1,8 +1,8 @@
 -- The names of a text: their declarations and their uses. Of two faults at one place, the lower code is judged.
-use mathlib.Core.Bool.{Bool, true, false, cond, not, _&&_}
+use mathlib.Core.Bool.{Bool, cond, not, _&&_}
 use mathlib.Core.List.{List}
 use Prim.Native.Nat.{ℕ, _+_, _-_}
-use lib.Dec.{eqb, leb, ltb}
+use lib.Dec.{leb, ltb}
 use lib.ListN.{drop, set}
 use Rattle.reader_tokens.specs.Scan.{past, same}
 use Rattle.reader_record.specs.declared.Name.{Name}
@@ -10,7 +10,6 @@ use Rattle.reader_parts.specs.declared.Fault.{Fault}
 use Rattle.reader_parts.specs.declared.Fault.the-variants.{Declared, Unknown, TooMany}
 use Rattle.reader_parts.specs.declared.Status.{Status}
 use Rattle.reader_parts.specs.declared.Status.the-variants.{At, Refused}
-use Rattle.reader_parts.specs.declared.NameRead.{NameRead}
 use Rattle.reader_parts.specs.declared.Declaration.{Declaration}
 use Rattle.reader_parts.specs.declared.Use.{Use}
 use Rattle.reader_parts.specs.Slots.{name-slots}

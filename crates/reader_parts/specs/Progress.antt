@@ -12,7 +12,6 @@ use Rattle.reader_record.specs.declared.Name.{Name}
 use Rattle.reader_tokens.specs.Kinds as kinds
 use Rattle.reader_tokens.specs.Tokens.{token-at}
 use Rattle.reader_tokens.specs.Progress.{Takes, token-takes}
-use Rattle.reader_tokens.specs.declared.Token.{Token}
 use Rattle.reader_parts.specs.declared.Status.{Status}
 use Rattle.reader_parts.specs.declared.Status.the-variants.{At, Refused}
 use Rattle.reader_parts.specs.Status.{take, ahead, name-of, name-next}

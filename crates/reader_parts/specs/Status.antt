@@ -1,6 +1,6 @@
 -- "The reader reads tokens from left to right and remembers its place": how far it has come, and single tokens. The
 -- first fault stays: what comes after it is not read.
-use mathlib.Core.Bool.{Bool, true, false, cond}
+use mathlib.Core.Bool.{Bool, false, cond}
 use mathlib.Core.List.{List}
 use Prim.Native.Nat.{ℕ, _-_}
 use lib.Dec.{eqb, ltb}

@@ -1,8 +1,9 @@
 // The parts of a contract text: how far the reader has come, single tokens, names and their table.
 ghost use mathlib.Core.Path.{_≡_};
-ghost use mathlib.Core.Bool.{Bool, true, false};
-ghost use Prim.Native.Nat.{ℕ, _+_, _-_, _≤_, _<_};
-ghost use lib.ListN.{length, getD, set, drop};
+ghost use mathlib.Core.Bool.{false};
+ghost use Prim.Native.Nat.{_+_, _-_, _≤_, _<_};
+ghost use lib.ListN.{length};
+ghost use Rattle.reader_record.specs.Limits.{largest-text};
 ghost use Rattle.reader_parts.specs.Slots.{name-slots};
 ghost use Rattle.reader_parts.specs.Status.{take, ahead, name-next, no-name-read};
 ghost use Rattle.reader_parts.specs.Names.{slot-of, no-declaration, declare, no-use, use-name};
@@ -92,6 +93,7 @@ fn no_name_read(f: Fault) -> NameRead
 
 // The next token, which has to be a name that is not too long.
 pub fn name_next(s: &[u8], st: Status) -> NameRead
+    requires { ⌜ length (now s) ≤ largest-text ⌝ }
     ensures { λ r. ⌜ r ≡ name-next (now (s .entry)) st ⌝ }
 {
     match st {
@@ -109,7 +111,10 @@ pub fn name_next(s: &[u8], st: Status) -> NameRead
                 let f = Fault::NameTooLong(a);
                 return no_name_read(f);
             }
-            let name = Name { place: a, len: n };
+            let name = Name {
+                place: a as u16,
+                len: n as u8,
+            };
             let st = Status::At(e);
             NameRead {
                 status: st,
@@ -133,10 +138,12 @@ fn length(a: usize, e: usize) -> usize
 pub fn find(s: &[u8], names: [Name; NAME_SLOTS], name: Name) -> usize
     ensures { λ r. ⌜ r ≡ slot-of (now (s .entry)) names name ⌝ }
 {
+    let place = name.place as usize;
+    let len = name.len as usize;
     let mut i = 0;
     while i < NAME_SLOTS {
         let n = names[i];
-        if reader_tokens::is_same(s, n.place, n.len, s, name.place, name.len) {
+        if reader_tokens::is_same(s, n.place as usize, n.len as usize, s, place, len) {
             return i;
         }
         i += 1;
@@ -171,7 +178,7 @@ pub fn declare(
     number: usize,
     limit: usize,
 ) -> Declaration
-    requires { ⌜ first + limit ≤ name-slots ⌝ }
+    requires { ⌜ (first + limit ≤ name-slots) × (length (now s) ≤ largest-text) ⌝ }
     ensures { λ r. ⌜ r ≡ declare (now (s .entry)) st names first number limit ⌝ }
 {
     let a = name_next(s, st);
@@ -181,11 +188,11 @@ pub fn declare(
         Status::Refused(f) => no_declaration(names, name, f),
         Status::At(e) => {
             if find(s, names, name) < NAME_SLOTS {
-                let f = Fault::Declared(name.place);
+                let f = Fault::Declared(name.place as usize);
                 return no_declaration(names, name, f);
             }
             if limit <= number {
-                let f = Fault::TooMany(name.place);
+                let f = Fault::TooMany(name.place as usize);
                 return no_declaration(names, name, f);
             }
             let mut all = names;
@@ -227,7 +234,7 @@ pub fn use_name(
     limit: usize,
     over: bool,
 ) -> Use
-    requires { ⌜ first + limit ≤ name-slots ⌝ }
+    requires { ⌜ (first + limit ≤ name-slots) × (length (now s) ≤ largest-text) ⌝ }
     ensures { λ r. ⌜ r ≡ use-name (now (s .entry)) st names first limit over ⌝ }
 {
     let a = name_next(s, st);
@@ -238,22 +245,22 @@ pub fn use_name(
         Status::At(e) => {
             let i = find(s, names, n);
             if i < first {
-                let f = Fault::Unknown(n.place);
+                let f = Fault::Unknown(n.place as usize);
                 return no_use(f);
             }
             if first + limit <= i {
-                let f = Fault::Unknown(n.place);
+                let f = Fault::Unknown(n.place as usize);
                 return no_use(f);
             }
             if over {
-                let f = Fault::TooMany(n.place);
+                let f = Fault::TooMany(n.place as usize);
                 return no_use(f);
             }
             let yes = Status::At(e);
             Use {
                 status: yes,
                 number: i - first,
-                place: n.place,
+                place: n.place as usize,
             }
         }
     }

@@ -31,8 +31,8 @@ fn put(n: usize) {
 
 // A name: its byte place and its length.
 fn name(n: Name) {
-    put(n.place);
-    put(n.len);
+    put(n.place as usize);
+    put(n.len as usize);
 }
 
 fn direction(d: Direction) {

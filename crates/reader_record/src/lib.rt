@@ -17,10 +17,11 @@ pub const LARGEST_CONSTANT: usize = 1000;
 
 pub const STATE_LIMIT: usize = 4096;
 
-// A name, as the byte place and the length of its declaration.
+// A name, as the byte place and the length of its declaration. Names are kept in a table that is passed by value, and
+// a text has at most 32,768 bytes and a name at most 31: so a name is in four bytes.
 pub struct Name {
-    pub place: usize,
-    pub len: usize,
+    pub place: u16,
+    pub len: u8,
 }
 
 // How the edges use a channel. One that no edge names counts as an output that never happens.

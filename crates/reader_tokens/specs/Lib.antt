@@ -2,3 +2,4 @@ pub mod Scan
 pub mod Kinds
 pub mod Tokens
 pub mod Progress
+pub mod Spans

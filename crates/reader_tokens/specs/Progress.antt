@@ -106,7 +106,7 @@ module _ (s : List ℕ) (p : ℕ) (h : p < length s) where
   word-takes e = record { after = past-after is-part s p 0 h (rw e); within = past-within is-part s p 0 h (rw e) }
 
 -- the token that starts at p, where it is not the end
-token-from-takes : (s : List ℕ) (p : ℕ) → eqb (token-from s p .kind) end ≡ false → Takes s p (token-from s p)
+pub token-from-takes : (s : List ℕ) (p : ℕ) → eqb (token-from s p .kind) end ≡ false → Takes s p (token-from s p)
 unfolding token-from
 token-from-takes s p n = by (ltb p (length s)) refl (is-letter (getD s p 0)) refl (is-digit (getD s p 0)) refl n
   where

@@ -1,8 +1,8 @@
 // Tokens of a contract text, read at a byte place.
 ghost use mathlib.Core.Path.{_≡_};
-ghost use mathlib.Core.Bool.{Bool, true};
+ghost use mathlib.Core.Bool.{true};
 ghost use mathlib.Core.List.{map, flatten};
-ghost use Prim.Native.Nat.{ℕ, suc, _+_, _-_, _*_, _≤_, _<_};
+ghost use Prim.Native.Nat.{suc, _+_, _-_, _*_, _≤_, _<_};
 ghost use lib.ListN.{length, getD, drop};
 ghost use Rattle.reader_record.specs.Limits.{largest-constant};
 ghost use Rattle.reader_tokens.specs.Scan.{member, is-space, is-letter, is-digit, is-part, past, with-digit};

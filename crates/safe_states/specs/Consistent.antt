@@ -1,9 +1,9 @@
 -- What the safe-state operation says of an accepted text with uncapped clocks.
-use mathlib.Core.Path.{_≡_, refl, sym, subst, ap, _∙_}
+use mathlib.Core.Path.{_≡_, sym, subst, ap, _∙_}
 use mathlib.Core.Logic.{_↔_}
 use mathlib.Core.Bool.{Bool, true, false}
 use mathlib.Core.List.{List}
-use Prim.Native.Nat.{ℕ, _≤_, _<_}
+use Prim.Native.Nat.{ℕ, _≤_}
 use lib.Dec.{T, ltb}
 use lib.ListN.{length}
 use borrow.Author.Tests.{le-ltb}
@@ -12,8 +12,7 @@ use Rattle.systems.specs.Tests.{at, ones}
 use Rattle.systems.specs.Definitions.{Implementation, Satisfies}
 use Rattle.systems.specs.Finite as finite
 use Rattle.reader_record.specs.declared.Text.{Text}
-use Rattle.clocks_bits.specs.Bits.{bit-at}
-use Rattle.clocks_bits.specs.Packed.{bytes, packed-bit}
+use Rattle.clocks_bits.specs.Packed.{bytes}
 use Rattle.clocks.specs.States.{state-count, start-state}
 use Rattle.clocks.specs.Safe.{safe-states}
 use Rattle.clocks.specs.Accepted.{Accepted}
@@ -23,7 +22,6 @@ use Rattle.clocks.specs.Results.{Meaning, text-implementable}
 use Rattle.clocks_read.specs.declared.ReadAnswer.the-variants as read
 use Rattle.clocks_read.specs.Reading.{read-outcome}
 use Rattle.clocks_read.specs.Laws.{read-accepted}
-use Rattle.safe_states.specs.declared.SafeAnswer.{SafeAnswer}
 use Rattle.safe_states.specs.declared.SafeAnswer.the-variants.{Found}
 use Rattle.safe_states.specs.Outcome.{Outcome, found-outcome, kept-outcome, answered, safe-outcome}
 

@@ -1,5 +1,5 @@
 -- Document 01's safe-state operation: what it answers, and what keep holds afterwards.
-use mathlib.Core.Bool.{Bool, true, false}
+use mathlib.Core.Bool.{true, false}
 use mathlib.Core.List.{List}
 use Prim.Native.Nat.{ℕ}
 use lib.Dec.{ltb}
@@ -12,7 +12,6 @@ use Rattle.clocks.specs.States.{state-count, start-state}
 use Rattle.clocks.specs.Safe.{safe-states}
 use Rattle.clocks_read.specs.declared.ReadAnswer.{ReadAnswer}
 use Rattle.clocks_read.specs.declared.ReadAnswer.the-variants as read
-use Rattle.clocks_read.specs.declared.Reading.{Reading}
 use Rattle.clocks_read.specs.Reading.{read-outcome}
 use Rattle.safe_states.specs.declared.SafeAnswer.{SafeAnswer}
 use Rattle.safe_states.specs.declared.SafeAnswer.the-variants.{Found, Refused}

@@ -15,14 +15,13 @@ use Rattle.reader_record.specs.declared.Text.{Text}
 use Rattle.clocks_bits.specs.Bits.{tab-from, bit-at, written}
 use Rattle.clocks_bits.specs.Packed.{bytes, Packed, packed, packed-bit, packed-length, Bitmap}
 use Rattle.clocks_bits.specs.Moves.{Bounded}
-use Rattle.clocks.specs.States.{state-count, start-state, input, table-entry, table-size, table-limit, invariants, bytes-limit}
+use Rattle.clocks.specs.States.{state-count, start-state, input, table-entry, table-size, invariants}
 use Rattle.clocks.specs.Safe.{safe-states}
 use Rattle.clocks.specs.Accepted.{Accepted}
 use Rattle.clocks.specs.Judgement.{judgement-few}
 use Rattle.clocks.specs.Contract.{system}
 use Rattle.clocks.specs.Encoded.{table-bounded, table-encoded, bits-bitmap, bits-start, safe-states-same}
 use Rattle.clocks_safe.specs.Settle.{Safe-answer, length-table, length-stage}
-use Rattle.clocks_states.specs.Counts.{times-bound}
 use Rattle.clocks_table.specs.Judge.{Room, judge-room}
 use Rattle.clocks_read.specs.declared.ReadAnswer.the-variants as read
 use Rattle.clocks_read.specs.declared.Reading.{Reading}

@@ -4,15 +4,11 @@ use clocks_read::ReadAnswer;
 use reader_record::Text;
 use refusals::Refusal;
 ghost use mathlib.Core.Path.{_≡_};
-ghost use Prim.Native.Nat.{ℕ, _≤_};
 ghost use lib.ListN.{length};
-ghost use Rattle.reader_record.specs.Formed.{Well-formed};
-ghost use Rattle.clocks.specs.States.{state-count, start-state};
 ghost use Rattle.clocks_table.specs.Judge.{Room};
 ghost use Rattle.clocks_read.specs.Measured.{Measures};
 ghost use Rattle.safe_states.specs.Outcome.{Outcome, found-outcome, safe-outcome};
 ghost use Rattle.safe_states.specs.Paths.{Ready};
-ghost use Rattle.reader_record.specs.Limits.{state-limit};
 
 // The count of the safe states and whether the start is one, or what is refused.
 pub enum SafeAnswer {

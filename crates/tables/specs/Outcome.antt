@@ -1,8 +1,6 @@
 -- The operations on tables: document 01's answers, and what keep and the table hold afterwards, for all texts, contents
 -- and lengths.
-use mathlib.Core.Path.{_≡_}
-use mathlib.Core.Bool.{Bool, not, cond}
-use mathlib.Core.Option.{none}
+use mathlib.Core.Bool.{not, cond}
 use mathlib.Core.List.{List, _++_}
 use Prim.Native.Nat.{ℕ}
 use lib.Dec.{ltb}

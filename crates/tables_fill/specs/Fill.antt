@@ -1,7 +1,7 @@
 -- A raster filled with the pairs of two bitmaps.
 use mathlib.Core.Bool.{Bool, _&&_}
 use mathlib.Core.List.{List}
-use Prim.Native.Nat.{ℕ, _-_, _*_, _/_, _%_}
+use Prim.Native.Nat.{ℕ, _*_, _/_, _%_}
 use lib.Dec.{ltb}
 use Rattle.systems.specs.Tests.{at, table}
 use Rattle.clocks_bits.specs.Bits.{bit-at}

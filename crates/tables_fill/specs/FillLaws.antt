@@ -1,6 +1,6 @@
 -- Laws of filling: one row after the other.
 use mathlib.Core.Path.{_≡_, refl, sym, subst, ap, _∙_}
-use mathlib.Core.Logic.{_↔_, _⊎_, ⊎-elim, _≢_}
+use mathlib.Core.Logic.{_↔_, ⊎-elim, _≢_}
 use mathlib.Core.Bool.{Bool, true, false, _&&_}
 use mathlib.Core.List.{List}
 use Prim.Native.Nat.{ℕ, zero, _+_, _-_, _*_, _/_, _%_, _≤_, _<_}

@@ -1,8 +1,6 @@
-ghost use mathlib.Core.Path.{_≡_};
 ghost use mathlib.Core.List.{List};
-ghost use Prim.Native.Nat.{ℕ, _+_, _-_, _*_, _/_, _≤_, _<_};
+ghost use Prim.Native.Nat.{ℕ, _+_, _*_, _/_, _≤_, _<_};
 ghost use lib.ListN.{length, set};
-ghost use Rattle.clocks_bits.specs.Bits.{written};
 ghost use Rattle.clocks_bits.specs.Packed.{bytes};
 ghost use Rattle.tables_fill.specs.Fill.{Filling};
 ghost use Rattle.clocks_bits.specs.Moves.{most-states};

@@ -13,7 +13,7 @@ use lib.Arith.{digits-div, digits-mod}
 use lib.ListN.{length, getD, set, List·getD-eq-default}
 use lib.Seq.{ext-getD, getD-set-other}
 use Rattle.systems.specs.Bools.{T-dec, stays-elim, stays-intro, lands-elim, lands-intro}
-use Rattle.systems.specs.Tests.{stays, lands, at, ones, stage}
+use Rattle.systems.specs.Tests.{lands, at, ones, stage}
 use Rattle.systems.specs.Sieve.{Between, between-start, between-clear, between-done, ones-table}
 use Rattle.systems.specs.Definitions.{Signature}
 use Rattle.systems.specs.Finite.{Finite-system, pruned, pair-ok, pairs, widest, cell}

@@ -2,7 +2,7 @@
 use mathlib.Core.Path.{_≡_}
 use mathlib.Core.Bool.{Bool, true}
 use mathlib.Core.List.{List}
-use Prim.Native.Nat.{ℕ, _-_}
+use Prim.Native.Nat.{ℕ}
 use Rattle.systems.specs.Tests.{ones, table}
 use Rattle.systems.specs.Definitions.{Signature}
 use Rattle.systems.specs.Finite.{Finite-system, safe, widest, cell}

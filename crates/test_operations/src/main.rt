@@ -6,9 +6,8 @@ use search::SearchAnswer;
 use tables::CheckAnswer;
 use tables::WidestAnswer;
 ghost use mathlib.Core.Path.{_≡_};
-ghost use Prim.Native.Nat.{ℕ, _+_, _≤_, _<_};
+ghost use Prim.Native.Nat.{_+_, _≤_, _<_};
 ghost use lib.ListN.{length};
-ghost use Rattle.io.specs.Counts.{Counts};
 
 // The letters of the search, of the search with an over-long right text, and of the widest table: `D`, `L` and `W`; the
 // check has `C`.

@@ -1,8 +1,7 @@
 // Reads texts from standard input and prints what reading returns. Each text ends at a byte `%`; the byte after it
 // says whether the text is read as it is (`0`), with spaces up to the largest length (`1`), or up to one more (`2`).
 // A line feed comes between.
-ghost use mathlib.Core.Path.{_≡_};
-ghost use Prim.Native.Nat.{ℕ, _+_, _≤_, _<_};
+ghost use Prim.Native.Nat.{_+_, _≤_, _<_};
 ghost use lib.ListN.{length};
 use reader_record::LARGEST_TEXT;
 

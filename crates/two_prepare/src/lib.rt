@@ -1,7 +1,6 @@
 // What the operations on two texts do alike once their slices are judged: the left's safe states, and the left's
 // moves without those that leave them.
 use two_texts::Two;
-ghost use mathlib.Core.Path.{_≡_};
 ghost use Prim.Native.Nat.{_≤_};
 ghost use lib.ListN.{length};
 ghost use Rattle.clocks_bits.specs.Packed.{bytes};

@@ -1,28 +1,22 @@
 -- Where codes 1 to 12 find nothing there are two texts to compare, and an outcome goes by what is known of them.
-use mathlib.Core.Path.{_≡_, refl, sym, subst, ap, _∙_, pathJ}
-use mathlib.Core.Bool.{Bool, true, false, cond}
+use mathlib.Core.Path.{_≡_, refl, sym, subst, pathJ}
 use mathlib.Core.Option.{Option, none, some}
 use mathlib.Core.List.{List}
-use Prim.Native.Nat.{ℕ, _≤_, _<_}
-use native.Mathlib.Omega.{arith}
-use lib.Dec.{T, ltb}
-use lib.ListN.{length}
+use Prim.Native.Nat.{ℕ}
+use lib.Dec.{T}
 use Rattle.refusals.specs.declared.Refusal.{Refusal}
-use Rattle.reader_record.specs.declared.Text.{Text}
 use Rattle.systems.specs.Bools.{none-some}
-use Rattle.systems.specs.Definitions.{Input}
-use Rattle.clocks.specs.Accepted as accepted
 use Rattle.clocks.specs.Judgement.{input-known}
 use Rattle.clocks.specs.Contract.{signature}
 use Rattle.clocks_read.specs.declared.ReadAnswer.{ReadAnswer}
 use Rattle.clocks_read.specs.declared.ReadAnswer.the-variants as read
 use Rattle.clocks_read.specs.Reading.{read-outcome}
-use Rattle.clocks_read.specs.Laws.{Read, read-accepted}
+use Rattle.clocks_read.specs.Laws.{read-accepted}
 use Rattle.pairing.specs.declared.Matched.{Matched}
 use Rattle.pairing.specs.declared.Matched.the-variants.{Equal, Unmatched}
-use Rattle.pairing.specs.Channels.{left-file, right-file, Channel, Equal-channels, unmatched}
+use Rattle.pairing.specs.Channels.{left-file, right-file, Equal-channels, unmatched}
 use Rattle.pairing.specs.Equal.{Well-named, read-named, equal-when-nothing, step-input}
-use Rattle.two_texts.specs.Two.{text-of, too-long-in, refused-in, refused-pairing, or-else, two-judged, step-of, Compared, judged-by}
+use Rattle.two_texts.specs.Two.{text-of, too-long-in, refused-in, refused-pairing, or-else, two-judged, Compared, judged-by}
 
 -- nothing is found exactly when no judgement finds anything
 or-none : (a b : Option Refusal) → none ≡ or-else a b → (a ≡ none) × (none ≡ b)

@@ -14,8 +14,6 @@ use Rattle.reader_formed.specs.Cases.{when-equal}
 use Rattle.clocks_bits.specs.Bits.{tab-from, tab-at, length-tab, written-at, written-length}
 use Rattle.clocks_bits.specs.Moves.{Bounded, Encodes}
 use Rattle.clocks.specs.States.{state-count, next, input, invariants}
-use Rattle.clocks.specs.Accepted as accepted
-use Rattle.clocks.specs.Judgement.{judgement-few}
 use Rattle.clocks.specs.Contract.{signature, system}
 use Rattle.clocks.specs.Encoded.{table-bounded, table-encoded, bits-bitmap, bits-start}
 use Rattle.clocks_safe.specs.Settle.{length-table}
@@ -26,7 +24,6 @@ use Rattle.two_texts.specs.Two.{text-of, step-of, Compared, right-system
 use Rattle.two_texts.specs.Laws.{Judged, named, channels-equal}
 use Rattle.two_texts.specs.Loaded.{Loaded}
 use Rattle.two_texts.specs.Answers.{accepted as accepted-two, size-by-left, by-left, Filled, Right-filled}
-use Rattle.reader_record.specs.Limits.{state-limit}
 
 -- a text's table fits wherever one with the most steps does
 pub table-fits : (t : Text) (steps room : ℕ) → steps ≤ most-steps → state-count t * most-steps ≤ room

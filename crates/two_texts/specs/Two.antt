@@ -1,7 +1,7 @@
 -- The two texts of an operation, the left (the draft) and the right (the contract), as their bytes: codes 1 to 12 in
 -- document 01's order, and what an operation works on once they find nothing.
 use mathlib.Core.Path.{_≡_, refl}
-use mathlib.Core.Bool.{Bool, cond}
+use mathlib.Core.Bool.{cond}
 use mathlib.Core.Option.{Option, none, some}
 use mathlib.Core.List.{List}
 use Prim.Native.Nat.{ℕ}

@@ -1,5 +1,4 @@
-use native.Mathlib.Omega.{arith}
-use mathlib.Core.Path.{_≡_, sym, _∙_, ap, refl}
+use mathlib.Core.Path.{sym, _∙_, ap}
 use Rattle.clocks_bits.specs.Bits.{num}
 use borrow.Author.Needs.{needs}
 use Rattle.clocks_bits.proofs.bit.Statement.{statement}

@@ -1,9 +1,7 @@
 use Rattle.clocks_bits.specs.Bits.{bit-at, clear-one, bit-ge}
 use borrow.Author.Tests.{eqb-true}
-use lib.ListN.{length, getD, set}
-use Prim.Native.Nat.{ℕ, _+_, _-_, _*_, _/_, _%_, _^_, _≤_, _<_}
+use Prim.Native.Nat.{_-_, _%_}
 use native.Mathlib.Omega.{arith}
-use mathlib.Core.Path.{_≡_, sym, _∙_, ap, refl}
 use borrow.Author.Needs.{needs}
 use Rattle.clocks_bits.proofs.clear.Statement.{statement}
 use Rattle.clocks_bits.proofs.clear.Tie as tie

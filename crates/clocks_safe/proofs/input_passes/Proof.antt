@@ -1,9 +1,6 @@
-use borrow.Author.Needs.{needs}
-use native.Mathlib.Omega.{arith}
-use mathlib.Core.Path.{_≡_, sym, _∙_, ap, refl}
 use borrow.Author.Tests.{not-true, not-false}
 use Rattle.systems.specs.Tests.{_⇒_, stays}
-use Rattle.clocks_bits.specs.Moves.{decode, decode-none, decode-some}
+use Rattle.clocks_bits.specs.Moves.{decode-none, decode-some}
 use Rattle.clocks_safe.specs.Test.{input-passes}
 use Rattle.clocks_safe.proofs.input_passes.Statement.{statement}
 use Rattle.clocks_safe.proofs.input_passes.Tie as tie

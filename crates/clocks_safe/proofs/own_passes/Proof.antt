@@ -1,8 +1,5 @@
-use borrow.Author.Needs.{needs}
-use native.Mathlib.Omega.{arith}
-use mathlib.Core.Path.{_≡_, sym, _∙_, ap, refl}
 use Rattle.systems.specs.Tests.{lands}
-use Rattle.clocks_bits.specs.Moves.{decode, decode-none, decode-some}
+use Rattle.clocks_bits.specs.Moves.{decode-none, decode-some}
 use Rattle.clocks_safe.specs.Test.{own-passes}
 use Rattle.clocks_safe.proofs.own_passes.Statement.{statement}
 use Rattle.clocks_safe.proofs.own_passes.Tie as tie

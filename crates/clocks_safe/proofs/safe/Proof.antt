@@ -1,7 +1,3 @@
-use native.Mathlib.Omega.{arith}
-use mathlib.Core.Path.{_≡_, sym, _∙_, ap, refl}
-use Prim.Native.Nat.{ℕ, _+_, _-_, _*_, _/_, _%_, _^_, _≤_, _<_}
-use lib.ListN.{length, getD}
 use Rattle.clocks_safe.specs.Settle.{copied-counted, safe-answered}
 use borrow.Author.Needs.{needs}
 use Rattle.clocks_safe.proofs.safe.Statement.{statement}

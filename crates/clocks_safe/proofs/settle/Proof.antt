@@ -1,12 +1,8 @@
 use borrow.Author.Needs.{needs}
 use native.Mathlib.Omega.{arith}
-use mathlib.Core.Path.{_≡_, sym, _∙_, ap, refl, subst}
-use mathlib.Core.Logic.{inl, inr, ⊎-elim}
-use mathlib.Core.Bool.{Bool, true, false}
+use mathlib.Core.Path.{_≡_, refl}
 use mathlib.Core.List.{List}
-use Prim.Native.Nat.{ℕ, _+_, _-_, _*_, _/_, _%_, _^_, _≤_, _<_}
-use lib.ListN.{length}
-use Rattle.clocks_bits.specs.Bits.{bit-at}
+use Prim.Native.Nat.{ℕ, _-_, _≤_, _<_}
 use Rattle.clocks_bits.specs.Packed.{packed-length}
 use Rattle.clocks_safe.specs.Settle.{Held, Swept, held-start, visit-count, visit-held, visit-swept, held-done}
 use Rattle.clocks_safe.proofs.settle.Statement.{statement}

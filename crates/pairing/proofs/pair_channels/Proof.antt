@@ -1,7 +1,6 @@
 -- `pair_channels` is `pairing`, by what its parts ensure.
 use borrow.Author.Needs.{needs}
 use Prim.Native.Nat.{_≤_}
-use native.Mathlib.Omega.{arith}
 use Rattle.reader_record.specs.Limits.{channel-limit}
 use Rattle.pairing.specs.Only.{pairing-done}
 use Rattle.pairing.proofs.pair_channels.Statement.{statement}

@@ -3,6 +3,7 @@ use borrow.Author.Needs.{needs}
 use native.Mathlib.Omega.{arith}
 use Prim.Native.Nat.{_+_, _-_, _≤_}
 use mathlib.Core.Path.{_≡_, sym, _∙_}
+use Rattle.reader_record.specs.declared.Name.{Name}
 use Rattle.pairing.specs.Only.{only}
 use Rattle.pairing.specs.Channels.{partner}
 use Rattle.pairing.specs.Laws.{seek, seek-begins, seek-finds, seek-goes, seek-ends}
@@ -10,14 +11,22 @@ use Rattle.pairing.proofs.partner_of.Statement.{statement}
 use Rattle.pairing.proofs.partner_of.Tie as tie
 
 abbrev Inv-loop : tie.InvT-loop
-Inv-loop s name u r d₀ d = (1 ≤ d) × (d ≤ r .count + 1) × (seek s name u (only r) d ≡ partner s name u (only r))
+Inv-loop s u r place len d₀ d =
+    let name : Name = record { place = place; len = len } in
+    (1 ≤ d) × (d ≤ r .count + 1) × (seek s name u (only r) d ≡ partner s name u (only r))
 
 abbrev μ-loop : tie.MeasureT-loop
-μ-loop s name u r d₀ d = r .count + 1 - d
+μ-loop s u r place len d₀ d = r .count + 1 - d
+
+cast-place : tie.Need-cast-place Inv-loop μ-loop
+cast-place c = search needs
+
+cast-len : tie.Need-cast-len Inv-loop μ-loop
+cast-len c = search needs
 
 loop-holds : tie.Need-loop-holds Inv-loop μ-loop
 loop-holds c =
-    let a = c .before .before .args in
+    let a = c .before .before .before .before .args in
     (omega arith, omega arith, seek-begins (a .s .now) (a .name) (a .u .now) (only (a .t4)))
 
 sub-k : tie.Need-sub-k Inv-loop μ-loop
@@ -27,22 +36,28 @@ mul-k : tie.Need-mul-k Inv-loop μ-loop
 mul-k c = search needs
 
 element-copy-out-k : tie.Need-element-copy-out-k Inv-loop μ-loop
-element-copy-out-k c = omega (arith, c .before .before .before .before .pre)
+element-copy-out-k c = omega (arith, c .before .before .before .before .before .before .pre)
+
+cast-at : tie.Need-cast-at Inv-loop μ-loop
+cast-at c = search needs
+
+cast-is-same : tie.Need-cast-is-same Inv-loop μ-loop
+cast-is-same c = search needs
 
 is-same-requires : tie.Need-is-same-requires Inv-loop μ-loop
 is-same-requires c κs = search needs
 
 returns : tie.Need-returns Inv-loop μ-loop
 returns c =
-    let a = c .before .before .before .before .before .before .before .before .args in
-    let loop = c .before .before .before .before .before .loop in
+    let a = c .before .before .before .before .before .before .before .before .before .before .before .before .args in
+    let loop = c .before .before .before .before .before .before .before .loop in
     sym (seek-finds (a .s .now) (a .name) (a .u .now) (only (a .t4)) _ (omega arith)
     (sym (c .before .is-same .ensures) ∙ c .if1 .taken))
     ∙ loop .inv .2
 
 add-d : tie.Need-add-d Inv-loop μ-loop
 add-d c =
-    let pre = c .before .before .before .before .before .before .before .before .pre in
+    let pre = c .before .before .before .before .before .before .before .before .before .before .before .before .pre in
     omega (arith, pre)
 
 loop-less : tie.Need-loop-less Inv-loop μ-loop
@@ -50,8 +65,8 @@ loop-less c = search needs
 
 loop-again : tie.Need-loop-again Inv-loop μ-loop
 loop-again c =
-    let a = c .before .before .before .before .before .before .before .before .args in
-    let l = c .before .before .before .before .before .loop in
+    let a = c .before .before .before .before .before .before .before .before .before .before .before .before .args in
+    let l = c .before .before .before .before .before .before .before .loop in
     let no = sym (c .before .is-same .ensures) ∙ c .if1 .left in (
       omega arith,
       omega arith,
@@ -61,7 +76,7 @@ loop-again c =
 
 returns-2 : tie.Need-returns-2 Inv-loop μ-loop
 returns-2 c =
-    let a = c .before .before .before .before .args in
+    let a = c .before .before .before .before .before .before .args in
     sym (seek-ends (a .s .now) (a .name) (a .u .now) (only (a .t4)) _ (omega arith)) ∙ c .before .loop .inv .2
 
 pub partner-of-spec : {M : Type 1} → statement M
@@ -70,10 +85,14 @@ partner-of-spec =
     (tie.spec
     Inv-loop
     μ-loop
+    cast-place
+    cast-len
     loop-holds
     sub-k
     mul-k
     element-copy-out-k
+    cast-at
+    cast-is-same
     is-same-requires
     returns
     add-d

@@ -43,8 +43,8 @@ limit-requires-2 c κs = search needs
 
 declare-requires : tie.Need-declare-requires Inv-loop μ-loop
 declare-requires c κs =
-    rw (c .before .first-slot .ensures, c .limit2 .ensures)
-    (slots-fit (c .before .before .before .before .before .before .before .before .args .k))
+    let start = c .before .before .before .before .before .before .before .before in
+    (rw (c .before .first-slot .ensures, c .limit2 .ensures) (slots-fit (start .args .k)), start .pre)
 
 limit-requires-3 : tie.Need-limit-requires-3 Inv-loop μ-loop
 limit-requires-3 c κs = search needs

@@ -7,6 +7,12 @@ use Rattle.reader_numbers.proofs.write_channel.Tie as tie
 direction-number-requires : tie.Need-direction-number-requires
 direction-number-requires c κs = search needs
 
+cast-put-three : tie.Need-cast-put-three
+cast-put-three c = search needs
+
+cast-put-three-2 : tie.Need-cast-put-three-2
+cast-put-three-2 c = search needs
+
 put-three-requires : tie.Need-put-three-requires
 put-three-requires c κs = search needs
 
@@ -15,8 +21,17 @@ same-length c = search needs
 
 returns : tie.Need-returns
 unfolding channel-numbers
-returns c = rw (← c .before .before .before .before .direction-number .ensures) (c .before .before .put-three .ensures)
+returns c =
+    let direction = c .before .before .before .before .before .before .direction-number in
+    rw (← direction .ensures) (c .before .before .put-three .ensures)
 
 pub write-channel-spec : {M : Type 1} → statement M
 write-channel-spec =
-    tie.close (tie.spec direction-number-requires put-three-requires same-length returns)
+    tie.close
+    (tie.spec
+    direction-number-requires
+    cast-put-three
+    cast-put-three-2
+    put-three-requires
+    same-length
+    returns)

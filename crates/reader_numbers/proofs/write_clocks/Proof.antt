@@ -25,6 +25,12 @@ mul-name c = search needs
 element-copy-out-name : tie.Need-element-copy-out-name Inv-loop μ-loop
 element-copy-out-name c = search needs
 
+cast-place : tie.Need-cast-place Inv-loop μ-loop
+cast-place c = search needs
+
+cast-len : tie.Need-cast-len Inv-loop μ-loop
+cast-len c = search needs
+
 mul-put-two : tie.Need-mul-put-two Inv-loop μ-loop
 mul-put-two c = search needs
 
@@ -42,8 +48,8 @@ loop-less c = search needs
 
 loop-again : tie.Need-loop-again Inv-loop μ-loop
 loop-again c =
-    let args = c .before .before .before .before .before .before .before .before .args in
-    let loop = c .before .before .before .before .before .before .loop in (
+    let args = c .before .before .before .before .before .before .before .before .before .before .args in
+    let loop = c .before .before .before .before .before .before .before .before .loop in (
       omega arith,
       next-row (args .out .now) 54 2 (loop .i) (clock-row (args .t2)) (clock-length (args .t2)) (loop .inv .1)
           (c .before .before .put-two .ensures) refl,
@@ -67,6 +73,8 @@ write-clocks-spec =
     loop-holds
     mul-name
     element-copy-out-name
+    cast-place
+    cast-len
     mul-put-two
     add-put-two
     put-two-requires

@@ -7,6 +7,12 @@ use borrow.Author.Needs.{needs}
 use Rattle.reader_numbers.proofs.write_location.Statement.{statement}
 use Rattle.reader_numbers.proofs.write_location.Tie as tie
 
+cast-put-two : tie.Need-cast-put-two
+cast-put-two c = search needs
+
+cast-put-two-2 : tie.Need-cast-put-two-2
+cast-put-two-2 c = search needs
+
 put-two-requires : tie.Need-put-two-requires
 put-two-requires c κs = search needs
 
@@ -22,13 +28,20 @@ same-length c = search needs
 returns : tie.Need-returns
 unfolding location-numbers
 returns c =
-    let args = c .before .before .before .before .before .before .before .before .before .before .before .args in
+    let named = c .before .before .before .before .before .before .before in
+    let args = named .before .before .before .before .before .before .args in
     let name = args .l .name in
     joined (args .out .now) (args .at) (name .place ∷ name .len ∷ []) (constraint-numbers (args .l .invariant))
-    (c .before .before .before .before .before .before .before .put-two .ensures) (c .before .before
-    .write-constraint .ensures) refl
+    (named .put-two .ensures) (c .before .before .write-constraint .ensures) refl
 
 pub write-location-spec : {M : Type 1} → statement M
 write-location-spec =
     tie.close
-    (tie.spec put-two-requires add-write-constraint write-constraint-requires same-length returns)
+    (tie.spec
+    cast-put-two
+    cast-put-two-2
+    put-two-requires
+    add-write-constraint
+    write-constraint-requires
+    same-length
+    returns)

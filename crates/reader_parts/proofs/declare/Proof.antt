@@ -22,19 +22,25 @@ enum-known-came-2 c = search needs
 find-requires : tie.Need-find-requires
 find-requires c κs = search needs
 
+cast-t19 : tie.Need-cast-t19
+cast-t19 c = search needs
+
 no-declaration-requires-2 : tie.Need-no-declaration-requires-2
 no-declaration-requires-2 c κs = search needs
 
 returns : tie.Need-returns
 unfolding declare declare-name
 returns c = rw (
-  sym (c .before .before .before .before .before .before .before .name-next .ensures),
-  c .before .before .before .before .came2 .given .1,
-  sym (c .before .before .find .ensures),
+  sym (c .before .before .before .before .before .before .before .before .name-next .ensures),
+  c .before .before .before .before .before .came2 .given .1,
+  sym (c .before .before .before .find .ensures),
   lt-ltb _ name-slots
-      (c .before .if1 .taken),
+      (c .before .before .if1 .taken),
   c .no-declaration2 .ensures,
 )
+
+cast-t20 : tie.Need-cast-t20
+cast-t20 c = search needs
 
 no-declaration-requires-3 : tie.Need-no-declaration-requires-3
 no-declaration-requires-3 c κs = search needs
@@ -42,11 +48,11 @@ no-declaration-requires-3 c κs = search needs
 returns-2 : tie.Need-returns-2
 unfolding declare declare-name
 returns-2 c = rw (
-  sym (c .before .before .before .before .before .before .before .before .name-next .ensures),
-  c .before .before .before .before .before .came2 .given .1,
-  sym (c .before .before .before .find .ensures),
-  le-ltb _ name-slots (c .before .before .if1 .left),
-  le-leb _ _ (c .before .if2 .taken),
+  sym (c .before .before .before .before .before .before .before .before .before .name-next .ensures),
+  c .before .before .before .before .before .before .came2 .given .1,
+  sym (c .before .before .before .before .find .ensures),
+  le-ltb _ name-slots (c .before .before .before .if1 .left),
+  le-leb _ _ (c .before .before .if2 .taken),
   c .no-declaration3 .ensures,
 )
 
@@ -87,8 +93,10 @@ declare-spec =
     no-declaration-requires
     enum-known-came-2
     find-requires
+    cast-t19
     no-declaration-requires-2
     returns
+    cast-t20
     no-declaration-requires-3
     returns-2
     add-all

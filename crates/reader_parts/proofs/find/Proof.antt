@@ -4,6 +4,7 @@ use native.Mathlib.Omega.{arith}
 use Prim.Native.Nat.{_-_}
 use mathlib.Core.Path.{_≡_, sym, _∙_}
 use Rattle.reader_parts.specs.Slots.{name-slots}
+use Rattle.reader_record.specs.declared.Name.{Name}
 use Rattle.reader_tokens.specs.Scan.{past}
 use Rattle.reader_parts.specs.Names.{differs, slot-of}
 use Rattle.reader_tokens.proofs.Scan.{past-yes, past-no, past-end}
@@ -11,10 +12,18 @@ use Rattle.reader_parts.proofs.find.Statement.{statement}
 use Rattle.reader_parts.proofs.find.Tie as tie
 
 abbrev Inv-loop : tie.InvT-loop
-Inv-loop s name names i₀ i = past (differs s name) names i ≡ past (differs s name) names 0
+Inv-loop s names place len i₀ i =
+    let w : Name = record { place = place; len = len } in
+    past (differs s w) names i ≡ past (differs s w) names 0
 
 abbrev μ-loop : tie.MeasureT-loop
-μ-loop s name names i₀ i = name-slots - i
+μ-loop s names place len i₀ i = name-slots - i
+
+cast-place : tie.Need-cast-place Inv-loop μ-loop
+cast-place c = search needs
+
+cast-len : tie.Need-cast-len Inv-loop μ-loop
+cast-len c = search needs
 
 loop-holds : tie.Need-loop-holds Inv-loop μ-loop
 loop-holds c = search needs
@@ -25,14 +34,20 @@ mul-n c = search needs
 array-copy-out-n : tie.Need-array-copy-out-n Inv-loop μ-loop
 array-copy-out-n c = search needs
 
+cast-is-same : tie.Need-cast-is-same Inv-loop μ-loop
+cast-is-same c = search needs
+
+cast-is-same-2 : tie.Need-cast-is-same-2 Inv-loop μ-loop
+cast-is-same-2 c = search needs
+
 is-same-requires : tie.Need-is-same-requires Inv-loop μ-loop
 is-same-requires c κs = search needs
 
 returns : tie.Need-returns Inv-loop μ-loop
 unfolding slot-of differs
 returns c =
-    let args = c .before .before .before .before .before .before .args in
-    let loop = c .before .before .before .before .loop in
+    let args = c .before .before .before .before .before .before .before .before .before .before .args in
+    let loop = c .before .before .before .before .before .before .loop in
     sym (past-no (differs (args .s .now)
     (args .name))
     (args .t2) (loop .i)
@@ -48,8 +63,8 @@ loop-less c = search needs
 loop-again : tie.Need-loop-again Inv-loop μ-loop
 unfolding slot-of differs
 loop-again c =
-    let args = c .before .before .before .before .before .before .args in
-    let loop = c .before .before .before .before .loop in
+    let args = c .before .before .before .before .before .before .before .before .before .before .args in
+    let loop = c .before .before .before .before .before .before .loop in
     sym (past-yes (differs (args .s .now)
     (args .name))
     (args .t2) (loop .i)
@@ -68,9 +83,13 @@ find-spec =
     (tie.spec
     Inv-loop
     μ-loop
+    cast-place
+    cast-len
     loop-holds
     mul-n
     array-copy-out-n
+    cast-is-same
+    cast-is-same-2
     is-same-requires
     returns
     add-i

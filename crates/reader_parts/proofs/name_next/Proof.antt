@@ -1,9 +1,11 @@
 -- `name_next` is `name-next`, case by case.
 use borrow.Author.Needs.{needs}
+use native.Mathlib.Omega.{arith}
 use borrow.Author.Tests.{eq-eqb, ne-eqb, lt-ltb, le-ltb}
 use mathlib.Core.Path.{sym}
 use lib.ListN.{length}
 use Rattle.reader_record.specs.Limits.{largest-name}
+use Rattle.reader_tokens.specs.Spans.{found-spans}
 use Rattle.reader_parts.specs.Status.{name-of, name-next}
 use Rattle.reader_parts.proofs.name_next.Statement.{statement}
 use Rattle.reader_parts.proofs.name_next.Tie as tie
@@ -53,6 +55,17 @@ returns-2 c = rw (
   c .no-name-read3 .ensures,
 )
 
+-- the name lies within the text, which is not too long
+cast-t15 : tie.Need-cast-t15
+cast-t15 c =
+    let scan = c .before .before .before .before .scan in
+    let start = c .before .before .before .before .before .before .before .before .before in
+    let spans = found-spans _ _ _ (scan .ensures) (c .before .before .if1 .left) in
+    omega (arith, spans .some, spans .inside, start .pre)
+
+cast-t16 : tie.Need-cast-t16
+cast-t16 c = search needs
+
 returns-3 : tie.Need-returns-3
 unfolding name-next
 returns-3 c = rw (c .before .before .st .given .1, c .no-name-read .ensures)
@@ -82,5 +95,7 @@ name-next-spec =
     length-requires
     no-name-read-requires-3
     returns-2
+    cast-t15
+    cast-t16
     returns-3
     returns-4)

@@ -3,7 +3,7 @@ use borrow.Author.Needs.{needs}
 use borrow.Author.Tests.{not-true, not-false, lt-ltb, le-ltb}
 use mathlib.Core.Path.{sym, _∙_, ap}
 use mathlib.Core.List.{List}
-use Prim.Native.Nat.{ℕ, _-_}
+use Prim.Native.Nat.{ℕ}
 use Rattle.clocks_bits.specs.Bits.{bit-at}
 use Rattle.tables_check.specs.Fault.{first-bad, step-fault, fault-at}
 use Rattle.tables_check.proofs.fault_at.Statement.{statement}

@@ -1,5 +1,4 @@
 -- step_ok goes by whether the left and the right have the move.
-use Prim.Native.Nat.{_-_}
 use Rattle.systems.specs.Tests.{stays, lands}
 use Rattle.clocks_bits.specs.Moves.{decode-none, decode-some}
 use Rattle.tables_check.specs.Fault.{ok-of}

@@ -1,7 +1,6 @@
 -- byte_ones shifts the other bits off and counts the ones left.
 use native.Mathlib.Omega.{arith}
-use mathlib.Core.Path.{_≡_, sym, _∙_, ap, refl}
-use Prim.Native.Nat.{ℕ, suc, _+_, _-_, _*_, _/_, _%_, _^_, _≤_, _<_}
+use Prim.Native.Nat.{suc, _<_}
 use Rattle.tables_count.specs.PairsLaws.{high-ones-is, high-le, shifted-small}
 use borrow.Author.Needs.{needs}
 use Rattle.tables_count.proofs.byte_ones.Statement.{statement}

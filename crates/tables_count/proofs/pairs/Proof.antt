@@ -1,10 +1,9 @@
 -- pairs goes row by row: r is the pairs set in the first s rows.
 use borrow.Author.Needs.{needs}
 use native.Mathlib.Omega.{arith}
-use mathlib.Core.Path.{_≡_, sym, _∙_, ap, refl}
-use Prim.Native.Nat.{ℕ, suc, _+_, _-_, _*_, _/_, _%_, _^_, _≤_, _<_}
+use mathlib.Core.Path.{_≡_, _∙_, ap, refl}
+use Prim.Native.Nat.{ℕ, _+_, _-_, _*_, _≤_}
 use native.Mathlib.Nat.{mul-le-mul-right, mul-le-mul-left}
-use lib.ListN.{length, getD}
 use Rattle.clocks_bits.specs.Bits.{bit-at}
 use Rattle.clocks_bits.specs.Packed.{bytes}
 use Rattle.tables_rows.specs.Raster.{part}

@@ -1,9 +1,9 @@
 -- row_ones goes byte by byte: r is the ones of the first i bytes.
 use borrow.Author.Needs.{needs}
 use native.Mathlib.Omega.{arith}
-use mathlib.Core.Path.{_≡_, sym, _∙_, ap, refl}
-use Prim.Native.Nat.{ℕ, suc, _+_, _-_, _*_, _/_, _%_, _^_, _≤_, _<_}
-use lib.ListN.{length, getD}
+use mathlib.Core.Path.{_≡_, _∙_, ap, refl}
+use Prim.Native.Nat.{ℕ, suc, _+_, _-_, _*_, _/_, _%_, _≤_}
+use lib.ListN.{getD}
 use Rattle.clocks_bits.specs.Bits.{bit-at}
 use Rattle.tables_count.specs.Pairs.{passing, high-ones}
 use Rattle.tables_count.specs.PairsLaws.{passing-le, passing-byte, high-le}

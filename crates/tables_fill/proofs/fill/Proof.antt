@@ -1,10 +1,10 @@
 -- fill goes row by row: the first s rows are filled.
 use borrow.Author.Needs.{needs}
 use native.Mathlib.Omega.{arith}
-use mathlib.Core.Path.{_≡_, sym, _∙_, ap, refl}
+use mathlib.Core.Path.{_≡_, _∙_, refl}
 use mathlib.Core.List.{List}
-use Prim.Native.Nat.{ℕ, _+_, _-_, _*_, _/_, _%_, _^_, _≤_, _<_}
-use lib.ListN.{length, getD}
+use Prim.Native.Nat.{ℕ, _-_, _≤_}
+use lib.ListN.{length}
 use Rattle.systems.specs.Tests.{at}
 use native.Mathlib.Nat.{mul-le-mul-right}
 use Rattle.clocks_bits.specs.Bits.{bit-at}

@@ -1,8 +1,6 @@
 -- fill_row leaves the row of a state that is not safe empty, and copies the bitmap into any other.
 use native.Mathlib.Omega.{arith}
-use mathlib.Core.Path.{_≡_, sym, _∙_, ap, refl}
-use Prim.Native.Nat.{ℕ, _+_, _-_, _*_, _/_, _%_, _^_, _≤_, _<_}
-use lib.ListN.{length, getD}
+use mathlib.Core.Path.{sym, _∙_, refl}
 use borrow.Author.Tests.{not-true, not-false}
 use Rattle.systems.specs.Tests.{at}
 use Rattle.clocks_bits.specs.Bits.{bit-at}

@@ -2,7 +2,6 @@
 use borrow.Author.Needs.{needs}
 use borrow.Author.Tests.{not-true, not-false}
 use mathlib.Core.Path.{sym, _∙_, ap}
-use Prim.Native.Nat.{_-_}
 use Rattle.tables_whole.specs.Answer.{answer-of, raster-answer}
 use Rattle.tables_whole.specs.declared.TableAnswer.the-variants.{Accepted}
 use Rattle.tables_whole.proofs.check_raster.Statement.{statement}

@@ -1,5 +1,4 @@
 -- Each number is the one that the callee promises.
-use borrow.Author.Needs.{needs}
 use native.Mathlib.Omega.{arith}
 use Rattle.clocks_states.specs.Parts.{start-fits, start-done, inputs-done}
 use Rattle.two_texts.specs.Paths.{numbers-done}

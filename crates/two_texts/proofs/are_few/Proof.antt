@@ -1,4 +1,3 @@
-use native.Mathlib.Omega.{arith}
 use Rattle.two_texts.specs.Measured.{few-not, few-within}
 use Rattle.two_texts.proofs.are_few.Statement.{statement}
 use Rattle.two_texts.proofs.are_few.Tie as tie
