@@ -5,6 +5,7 @@ ghost use lib.ListN.{length, set};
 ghost use Rattle.clocks_bits.specs.Moves.{Bounded, most-states, no-move};
 ghost use Rattle.clocks_bits.specs.Packed.{bytes};
 ghost use Rattle.tables_rows.specs.Raster.{part};
+ghost use Rattle.tables_check.specs.Loops.{Blank};
 ghost use Rattle.tables_check.specs.Fault.{ok-of, first-bad, fault-at, table-from};
 
 // A pair that is set: fine, or with a state that may not be there, or breaking a rule at a step.
@@ -100,6 +101,17 @@ fn fault_at(
     Fault::Fine
 }
 
+// Whether a byte of the row begins at column t and nothing in it is set.
+fn is_blank(row: &[u8], t: usize) -> bool
+    requires { ⌜ t / 8 < length (now row) ⌝ }
+    ensures { λ r. ⌜ Blank r (now (row .entry)) t ⌝ }
+{
+    if t % 8 != 0 {
+        return false;
+    }
+    row[t / 8] == 0
+}
+
 // The lowest pair that fails, by row and then column.
 pub fn scan(
     raster: &[u8],
@@ -127,6 +139,10 @@ pub fn scan(
         let row = &raster[a..e];
         let mut t: usize = 0;
         'columns: while t < w {
+            if is_blank(row, t) {
+                t += 8;
+                continue 'columns;
+            }
             let f = fault_at(row, raster, keep, holds, lm, rm, n, w, steps, s, t);
             match f {
                 Fault::Fine => {}

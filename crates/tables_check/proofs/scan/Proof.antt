@@ -3,15 +3,24 @@ use borrow.Author.Needs.{needs}
 use native.Mathlib.Nat.{sub-zero}
 use native.Mathlib.Omega.{arith}
 use mathlib.Core.Path.{_≡_, sym, _∙_, ap}
+use mathlib.Core.List.{List}
 use Prim.Native.Nat.{ℕ, _+_, _-_, _*_, _<_}
 use lib.ListN.{length, take, drop}
+use Rattle.clocks_bits.specs.Bits.{bit-at}
 use Rattle.clocks_bits.specs.Packed.{bytes}
+use Rattle.tables_rows.specs.Raster.{part}
 use Rattle.tables_rows.specs.RasterLaws.{part-length}
 use Rattle.tables_rows.specs.RasterLaws.{row-few, row-end}
 use Rattle.tables_check.specs.Fault.{fault-at, row-from, table-from}
-use Rattle.tables_check.specs.Loops.{row-step, row-done, table-step, table-end, picked-fine, picked-not-allowed, picked-broken}
+use Rattle.tables_check.specs.Loops.{row-step, row-done, row-skip, fault-unset, table-step, table-end, picked-fine, picked-not-allowed, picked-broken}
 use Rattle.tables_check.proofs.scan.Statement.{statement}
 use Rattle.tables_check.proofs.scan.Tie as tie
+
+-- the row that the code lends is the row of the raster
+row-same : (b s : ℕ) (k : List ℕ) → take (s * b + b - s * b) (drop (s * b) k) ≡ part b s k
+row-same b s k =
+    let e : s * b + b - s * b ≡ b = omega arith in
+    ap (λ (x : ℕ). take x (drop (s * b) k)) e
 
 abbrev Inv-columns : tie.InvT-columns
 Inv-columns raster keep holds lm rm n w steps b s a e row t₀ t =
@@ -72,14 +81,46 @@ columns-holds c =
     (args .steps) (args .raster .now) in
     sym (table-step faults (args .w) (args .n) (rows .s) (omega arith)) ∙ rows .inv
 
-fault-at-requires : tie.Need-fault-at-requires Inv-columns μ-columns Inv-rows μ-rows
-fault-at-requires c κs =
+is-blank-requires : tie.Need-is-blank-requires Inv-columns μ-columns Inv-rows μ-rows
+is-blank-requires c κs =
     let args = c .before .before .before .before .before .before .before .before .before .before .args in
     let pre = c .before .before .before .before .before .before .before .before .before .before .pre in
     let rows = c .before .before .before .before .rows in
     let below : rows .s < args .n = omega arith in
-    let e : rows .s * bytes (args .w) + bytes (args .w) - rows .s * bytes (args .w) ≡ bytes (args .w) = omega arith in
-    let same = ap (λ (x : ℕ). take x (drop (rows .s * bytes (args .w)) (args .raster .now))) e in
+    let same = row-same (bytes (args .w)) (rows .s) (args .raster .now) in
+    let long = part-length (args .n) (bytes (args .w)) (args .raster .now) (rows .s) (pre .1 .1 .0) below in
+    omega (arith, long, ap length same, c .columns-test .taken)
+
+add-t : tie.Need-add-t Inv-columns μ-columns Inv-rows μ-rows
+add-t c =
+    let pre = c .before .before .before .before .before .before .before .before .before .before .before .before .pre in
+    omega (arith, c .before .before .columns-test .taken, pre .1 .0 .few)
+
+columns-less : tie.Need-columns-less Inv-columns μ-columns Inv-rows μ-rows
+columns-less c = omega (arith, c .before .before .columns-test .taken)
+
+columns-again : tie.Need-columns-again Inv-columns μ-columns Inv-rows μ-rows
+columns-again c =
+    let args = c .before .before .before .before .before .before .before .before .before .before .before .before .args
+    in
+    let rows = c .before .before .before .before .before .before .rows in
+    let columns = c .before .before .before .columns in
+    let faults = fault-at (args .lm .now) (args .rm .now) (args .keep .now) (args .holds .now) (args .w)
+    (args .steps) (args .raster .now) in
+    let same = row-same (bytes (args .w)) (rows .s) (args .raster .now) in
+    sym (row-skip faults (args .w) 8 (rows .s) (columns .t) _ (λ i a b d.
+    fault-unset (args .lm .now) (args .rm .now) (args .keep .now) (args .holds .now) (args .w) (args .steps)
+    (args .raster .now) (rows .s) i
+    (sym (ap (λ (l : List ℕ). bit-at l i) same) ∙ c .before .is-blank .ensures .unset (c .if2 .taken) i a b)))
+    ∙ columns .inv
+
+fault-at-requires : tie.Need-fault-at-requires Inv-columns μ-columns Inv-rows μ-rows
+fault-at-requires c κs =
+    let args = c .before .before .before .before .before .before .before .before .before .before .before .before .args in
+    let pre = c .before .before .before .before .before .before .before .before .before .before .before .before .pre in
+    let rows = c .before .before .before .before .before .before .rows in
+    let below : rows .s < args .n = omega arith in
+    let same = row-same (bytes (args .w)) (rows .s) (args .raster .now) in
     let long = part-length (args .n) (bytes (args .w)) (args .raster .now) (rows .s) (pre .1 .1 .0) below in (
       pre .0,
       (
@@ -87,7 +128,7 @@ fault-at-requires c κs =
         (
           below,
           (
-            c .columns-test .taken,
+            c .before .before .columns-test .taken,
             (
               pre .1 .1 .0,
               (
@@ -112,19 +153,19 @@ enum-told-2 c = search needs
 enum-known-f : tie.Need-enum-known-f Inv-columns μ-columns Inv-rows μ-rows
 enum-known-f c = search needs
 
-add-t : tie.Need-add-t Inv-columns μ-columns Inv-rows μ-rows
-add-t c = search needs
+add-t-2 : tie.Need-add-t-2 Inv-columns μ-columns Inv-rows μ-rows
+add-t-2 c = search needs
 
-columns-less : tie.Need-columns-less Inv-columns μ-columns Inv-rows μ-rows
-columns-less c = search needs
+columns-less-2 : tie.Need-columns-less-2 Inv-columns μ-columns Inv-rows μ-rows
+columns-less-2 c = search needs
 
-columns-again : tie.Need-columns-again Inv-columns μ-columns Inv-rows μ-rows
-columns-again c =
-    let args = c .before .before .before .before .before .before .before .before .before .before .before .before
+columns-again-2 : tie.Need-columns-again-2 Inv-columns μ-columns Inv-rows μ-rows
+columns-again-2 c =
+    let args = c .before .before .before .before .before .before .before .before .before .before .before .before .before .before
     .before .args in
-    let rows = c .before .before .before .before .before .before .before .rows in
-    let columns = c .before .before .before .before .columns in
-    let columns-test = c .before .before .before .columns-test in
+    let rows = c .before .before .before .before .before .before .before .before .before .rows in
+    let columns = c .before .before .before .before .before .before .columns in
+    let columns-test = c .before .before .before .before .before .columns-test in
     let fault-at-call = c .before .before .fault-at in
     let faults = fault-at (args .lm .now) (args .rm .now) (args .keep .now) (args .holds .now) (args .w)
     (args .steps) (args .raster .now) in
@@ -159,11 +200,11 @@ returns c =
 
 returns-2 : tie.Need-returns-2 Inv-columns μ-columns Inv-rows μ-rows
 returns-2 c =
-    let args = c .before .before .before .before .before .before .before .before .before .before .before .before
+    let args = c .before .before .before .before .before .before .before .before .before .before .before .before .before .before
     .before .args in
-    let rows = c .before .before .before .before .before .before .before .rows in
-    let columns = c .before .before .before .before .columns in
-    let columns-test = c .before .before .before .columns-test in
+    let rows = c .before .before .before .before .before .before .before .before .before .rows in
+    let columns = c .before .before .before .before .before .before .columns in
+    let columns-test = c .before .before .before .before .before .columns-test in
     let fault-at-call = c .before .before .fault-at in
     let faults = fault-at (args .lm .now) (args .rm .now) (args .keep .now) (args .holds .now) (args .w)
     (args .steps) (args .raster .now) in
@@ -174,11 +215,11 @@ returns-2 c =
 
 returns-3 : tie.Need-returns-3 Inv-columns μ-columns Inv-rows μ-rows
 returns-3 c =
-    let args = c .before .before .before .before .before .before .before .before .before .before .before .before
+    let args = c .before .before .before .before .before .before .before .before .before .before .before .before .before .before
     .before .before .args in
-    let rows = c .before .before .before .before .before .before .before .before .rows in
-    let columns = c .before .before .before .before .before .columns in
-    let columns-test = c .before .before .before .before .columns-test in
+    let rows = c .before .before .before .before .before .before .before .before .before .before .rows in
+    let columns = c .before .before .before .before .before .before .before .columns in
+    let columns-test = c .before .before .before .before .before .before .columns-test in
     let fault-at-call = c .before .before .before .fault-at in
     let f = c .before .f in
     let faults = fault-at (args .lm .now) (args .rm .now) (args .keep .now) (args .holds .now) (args .w)
@@ -204,13 +245,17 @@ scan-spec =
     part-row-start
     part-row-end
     columns-holds
+    is-blank-requires
+    add-t
+    columns-less
+    columns-again
     fault-at-requires
     enum-told
     enum-told-2
     enum-known-f
-    add-t
-    columns-less
-    columns-again
+    add-t-2
+    columns-less-2
+    columns-again-2
     add-s
     rows-less
     rows-again
