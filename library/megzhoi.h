@@ -16,8 +16,8 @@
    - lengths are in entries, not in bytes;
    - no slice that is written overlaps another slice, and file, p and q are valid, distinct and in none of them;
    - nothing else writes to a slice during the call;
-   - the thread has MEGZHOI_STACK bytes of stack left (measured need: read and safe states 0.3 MB, check and
-     widest 0.4 MB, search 2.5 MB);
+   - the thread has MEGZHOI_STACK bytes of stack left (measured need: read and safe states 0.2 MB, check and
+     widest 0.4 MB, search 2.4 MB);
    - the program is an x86-64 Linux program, and the archive linked is the one that was proved.
    The calls share nothing: there are no globals, no allocation, no system calls. Calls on several threads at a
    time are fine as long as their slices differ. */
