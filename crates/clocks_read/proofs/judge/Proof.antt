@@ -19,8 +19,10 @@ judge-requires c κs =
 
 answer-of-requires : tie.Need-answer-of-requires
 answer-of-requires c κs =
-    let start = c .before .before .before .before .before .before .before .before .before .before .before .before .before .before in
-    start .pre .0 .counts (c .before .before .before .before .before .before .before .before .before .enum-told .given .1) .count
+    let start = c .before .before .before .before .before .before .before .before .before .before .before .before
+    .before .before in
+    start .pre .0 .counts (c .before .before .before .before .before .before .before .before .before .enum-told .given
+    .1) .count
 
 returns : tie.Need-returns
 returns c =
@@ -35,9 +37,11 @@ same-length-2 c = search needs
 
 returns-2 : tie.Need-returns-2
 returns-2 c =
-    let start = c .before .before .before .before .before .before .before .before .before .before .before .before .before .before .before in
+    let start = c .before .before .before .before .before .before .before .before .before .before .before .before
+    .before .before .before in
     let judge-call = c .before .before .before .before .before .judge in
-    loads-judged (start .args .m) _ _ _ (c .before .before .before .before .before .before .before .before .before .before .enum-told .given .1)
+    loads-judged (start .args .m) _ _ _ (c .before .before .before .before .before .before .before .before .before
+    .before .enum-told .given .1)
     (judged-done _ _ _ _ _ (judge-call .result) _ (judge-call .ensures) (c .answer-of .ensures))
 
 pub judge-spec : {M : Type 1} → statement M

@@ -33,7 +33,8 @@ state-count-of-requires c κs =
 returns : tie.Need-returns
 returns c =
     let start = c .before .before .before .before .before in
-    measured-refused (start .args .text .now) _ _ (c .before .before .before .parse .ensures) (c .before .enum-told .given .1)
+    measured-refused (start .args .text .now) _ _ (c .before .before .before .parse .ensures) (c .before .enum-told
+    .given .1)
 
 returns-2 : tie.Need-returns-2
 returns-2 c =

@@ -23,8 +23,11 @@ slice-aggregate-judge-2 c = search needs
 
 judge-requires : tie.Need-judge-requires
 judge-requires c κs =
-    let measures = c .before .before .before .before .before .before .measure .ensures in
-    (measures .counted, room-within few-states _ _ _ (c .before .before .before .before .if1 .taken) (omega arith) (omega arith))
+    let measures = c .before .before .before .before .before .before .measure .ensures in (
+      measures .counted,
+      room-within few-states _ _ _ (c .before .before .before .before .if1 .taken) (omega arith)
+          (omega arith),
+    )
 
 returns : tie.Need-returns
 returns c =

@@ -20,7 +20,8 @@ enum-told c = search needs
 
 add-need : tie.Need-add-need
 add-need c =
-    let start = c .before .before .before .before .before .before .before .before .before .before .before .before .before in
+    let start = c .before .before .before .before .before .before .before .before .before .before .before .before
+    .before in
     let text = start .args .text .now in
     let judges = c .before .before .before .before .before .before .judge in
     let loaded = judges .ensures ∙ measured-load text _ (start .pre .0) _ _ in
@@ -34,7 +35,8 @@ same-length-2 c = search needs
 
 returns : tie.Need-returns
 returns c =
-    let start = c .before .before .before .before .before .before .before .before .before .before .before .before .before .before in
+    let start = c .before .before .before .before .before .before .before .before .before .before .before .before
+    .before .before in
     let text = start .args .text .now in
     let judges = c .before .before .before .before .before .before .before .judge in
     let loaded = judges .ensures ∙ measured-load text _ (start .pre .0) _ _ in
@@ -42,13 +44,15 @@ returns c =
 
 found-requires : tie.Need-found-requires
 found-requires c κs =
-    let start = c .before .before .before .before .before .before .before .before .before .before .before .before .before .before .before .before .before .before in
+    let start = c .before .before .before .before .before .before .before .before .before .before .before .before
+    .before .before .before .before .before .before in
     let text = start .args .text .now in
     let judges = c .before .before .before .before .before .before .before .before .before .before .before .judge in
     let loaded = judges .ensures ∙ measured-load text _ (start .pre .0) _ _ in
     let told = c .before .before .before .before .before .enum-told .given .1 in
     let states = measured-states text _ (start .pre .0) (is-accepted text (start .args .keep .now) _ _ (judges .result) _ _ loaded told) in
-    safe-ready text (start .args .keep .now) _ _ (judges .result) _ _ loaded told _ states (start .pre .1) (c .before .before .before .before .if1 .left)
+    safe-ready text (start .args .keep .now) _ _ (judges .result) _ _ loaded told _ states (start .pre .1) (c .before
+    .before .before .before .if1 .left)
 
 same-length-3 : tie.Need-same-length-3
 same-length-3 c = search needs
@@ -58,7 +62,8 @@ same-length-4 c = search needs
 
 returns-2 : tie.Need-returns-2
 returns-2 c =
-    let start = c .before .before .before .before .before .before .before .before .before .before .before .before .before .before in
+    let start = c .before .before .before .before .before .before .before .before .before .before .before .before
+    .before .before in
     let text = start .args .text .now in
     let judges = c .before .before .before .before .before .before .before .judge in
     let loaded = judges .ensures ∙ measured-load text _ (start .pre .0) _ _ in
@@ -75,11 +80,15 @@ same-length-7 c = search needs
 
 returns-3 : tie.Need-returns-3
 returns-3 c =
-    let start = c .before .before .before .before .before .before .before .before .before .before .before .before .before .before .before .before .before .before .before .before .before in
+    let start = c .before .before .before .before .before .before .before .before .before .before .before .before
+    .before .before .before .before .before .before .before .before .before in
     let text = start .args .text .now in
-    let judges = c .before .before .before .before .before .before .before .before .before .before .before .before .before .before .judge in
+    let judges = c .before .before .before .before .before .before .before .before .before .before .before .before
+    .before .before .judge in
     let loaded = judges .ensures ∙ measured-load text _ (start .pre .0) _ _ in
-    safe-found text (start .args .keep .now) _ _ (judges .result) _ _ loaded (c .before .before .before .before .before .before .before .before .enum-told .given .1) (c .before .before .before .before .before .before .before .if1 .left) _
+    safe-found text (start .args .keep .now) _ _ (judges .result) _ _ loaded (c .before .before .before .before .before
+    .before .before .before .enum-told .given .1) (c .before .before .before .before .before .before .before .if1
+    .left) _
     (c .before .before .found .ensures)
 
 pub safe-with-spec : {M : Type 1} → statement M

@@ -16,8 +16,11 @@ enum-told c = search needs
 
 made-requires : tie.Need-made-requires
 made-requires c κs =
-    let start = c .before .before .before .before .before .before .before .before .before .before .before .before .before .before .before .before .before .before .before .before .before .before .before .before .before .before .before .before .before in
-    let loads = c .before .before .before .before .before .before .before .before .before .before .before .before .before .before .before .before .load-two in
+    let start = c .before .before .before .before .before .before .before .before .before .before .before .before
+    .before .before .before .before .before .before .before .before .before .before .before .before .before .before
+    .before .before .before in
+    let loads = c .before .before .before .before .before .before .before .before .before .before .before .before
+    .before .before .before .before .load-two in
     let told = c .before .before .before .before .before .before .enum-told .given .1 in (
       ready-two (start .args .left .now) (start .args .right .now) _ _ _ _ (loads .result) (loads .ensures) told,
       loaded-two (start .args .left .now) (start .args .right .now) _ _ _ _ (loads .result) (loads .ensures) told
@@ -38,7 +41,8 @@ same-length-4 c = search needs
 
 returns : tie.Need-returns
 returns c =
-    let start = c .before .before .before .before .before .before .before .before .before .before .before .before .before .before .before .before .before .before .before .before .before .before .before .before in
+    let start = c .before .before .before .before .before .before .before .before .before .before .before .before
+    .before .before .before .before .before .before .before .before .before .before .before .before in
     let loads = c .before .before .before .before .before .before .before .before .before .before .before .load-two in
     widest-refused (start .args .left .now) (start .args .right .now) _ _ _ _ (loads .result) (loads .ensures)
     (start .args .keep .now) (start .args .table .now) _ (c .before .answer .given .1)
@@ -63,10 +67,14 @@ same-length-10 c = search needs
 
 returns-2 : tie.Need-returns-2
 returns-2 c =
-    let start = c .before .before .before .before .before .before .before .before .before .before .before .before .before .before .before .before .before .before .before .before .before .before .before .before .before .before .before .before .before .before .before .before .before .before .before .before in
-    let loads = c .before .before .before .before .before .before .before .before .before .before .before .before .before .before .before .before .before .before .before .before .before .before .before .load-two in
+    let start = c .before .before .before .before .before .before .before .before .before .before .before .before
+    .before .before .before .before .before .before .before .before .before .before .before .before .before .before
+    .before .before .before .before .before .before .before .before .before .before in
+    let loads = c .before .before .before .before .before .before .before .before .before .before .before .before
+    .before .before .before .before .before .before .before .before .before .before .before .load-two in
     widest-done (start .args .left .now) (start .args .right .now) _ _ _ _ (loads .result) (loads .ensures)
-    (start .args .keep .now) (start .args .table .now) (c .before .before .before .before .before .before .before .before .before .before .before .before .before .enum-told .given .1) _
+    (start .args .keep .now) (start .args .table .now) (c .before .before .before .before .before .before .before
+    .before .before .before .before .before .before .enum-told .given .1) _
     (c .before .before .before .before .before .before .made .ensures)
 
 pub widest-with-spec : {M : Type 1} → statement M

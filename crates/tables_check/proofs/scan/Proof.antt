@@ -116,7 +116,8 @@ columns-again c =
 
 fault-at-requires : tie.Need-fault-at-requires Inv-columns μ-columns Inv-rows μ-rows
 fault-at-requires c κs =
-    let args = c .before .before .before .before .before .before .before .before .before .before .before .before .args in
+    let args = c .before .before .before .before .before .before .before .before .before .before .before .before .args
+    in
     let pre = c .before .before .before .before .before .before .before .before .before .before .before .before .pre in
     let rows = c .before .before .before .before .before .before .rows in
     let below : rows .s < args .n = omega arith in
@@ -161,7 +162,8 @@ columns-less-2 c = search needs
 
 columns-again-2 : tie.Need-columns-again-2 Inv-columns μ-columns Inv-rows μ-rows
 columns-again-2 c =
-    let args = c .before .before .before .before .before .before .before .before .before .before .before .before .before .before
+    let args = c .before .before .before .before .before .before .before .before .before .before .before .before
+    .before .before
     .before .args in
     let rows = c .before .before .before .before .before .before .before .before .before .rows in
     let columns = c .before .before .before .before .before .before .columns in
@@ -200,7 +202,8 @@ returns c =
 
 returns-2 : tie.Need-returns-2 Inv-columns μ-columns Inv-rows μ-rows
 returns-2 c =
-    let args = c .before .before .before .before .before .before .before .before .before .before .before .before .before .before
+    let args = c .before .before .before .before .before .before .before .before .before .before .before .before
+    .before .before
     .before .args in
     let rows = c .before .before .before .before .before .before .before .before .before .rows in
     let columns = c .before .before .before .before .before .before .columns in
@@ -215,7 +218,8 @@ returns-2 c =
 
 returns-3 : tie.Need-returns-3 Inv-columns μ-columns Inv-rows μ-rows
 returns-3 c =
-    let args = c .before .before .before .before .before .before .before .before .before .before .before .before .before .before
+    let args = c .before .before .before .before .before .before .before .before .before .before .before .before
+    .before .before
     .before .before .args in
     let rows = c .before .before .before .before .before .before .before .before .before .before .rows in
     let columns = c .before .before .before .before .before .before .before .columns in
