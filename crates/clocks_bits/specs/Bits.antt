@@ -46,10 +46,6 @@ tab-at f d k (suc n) (suc i) h = let e : k + suc i ≡ suc k + i = omega arith i
     rw e (tab-at f d (suc k) n i (le-of-suc-le-suc h))
 
 module _ (f : ℕ → ℕ) (n : ℕ) (d : List ℕ) where
-  pub written-size : length (written f n d) ≡ n + (length d - n)
-  unfolding written
-  written-size = simp (length-append, length-tab, length-drop)
-
   pub written-length : n ≤ length d → length (written f n d) ≡ length d
   unfolding written
   written-length h = simp (length-append, length-tab, length-drop) (omega arith)

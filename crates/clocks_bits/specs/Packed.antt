@@ -33,9 +33,6 @@ module _ {n : ℕ} {X : List Bool} {d s : List ℕ} (P : Packed n X d s) where
   packed-bit i h = bit-of (at X) s i (ap (λ (l : List ℕ). getD l (i / 8) 0) (P .is)
       ∙ written-at (byte-of (at X)) (bytes n) d (i / 8) (omega arith))
 
-  pub packed-in : (i : ℕ) → i < n → i / 8 < length s
-  packed-in i h = omega (arith, packed-length, P .room)
-
   -- one entry cleared
   pub packed-clear : (i : ℕ) → i < n → at X i ≡ true
       → Packed n (set X i false) d (set s (i / 8) (getD s (i / 8) 0 - 2 ^ (7 - i % 8)))

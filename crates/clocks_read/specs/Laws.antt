@@ -1,4 +1,4 @@
--- What an accepted reading says of the record, and conversely.
+-- What an accepted reading says of the record.
 use mathlib.Core.Path.{_≡_, refl, sym, ap, _∙_}
 use mathlib.Core.Bool.{false}
 use mathlib.Core.List.{List}
@@ -53,12 +53,6 @@ read-accepted s e =
       accepted = rw c (record { formed = read-formed s a; clean = b });
       states = d ∙ ap state-count (sym c);
     }
-
--- conversely, a text that is read and accepted as a record is accepted
-pub accepted-read : (s : List ℕ) → read-text s .answer ≡ parsed.Accepted → accepted.Accepted (read-text s .text)
-    → read-outcome s ≡ record { answer = Accepted; text = read-text s .text; states = state-count (read-text s .text) }
-unfolding read-outcome parsed-reading judged-reading
-accepted-read s e a = rw (e, a .clean)
 
 -- loading gives what reading gives
 pub load-reading : (s m h : List ℕ) → load-outcome s m h .reading ≡ read-outcome s

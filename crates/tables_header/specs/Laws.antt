@@ -51,10 +51,7 @@ decimal-length n h = ap length (decimal-more n h) ∙ length-append (decimal (n 
 pub length-one : (n : ℕ) → n < 10 → length (decimal n) ≡ 1
 length-one n h = ap length (decimal-one n h)
 
--- a number has at least one digit, and at most one more than its value
-pub decimal-some : (n : ℕ) → 0 < length (decimal n)
-decimal-some n = ⊎-elim (λ a. omega (arith, length-one n a)) (λ a. omega (arith, decimal-length n a)) (less n 10)
-
+-- a number has at most one digit more than its value
 digits-few : (k n : ℕ) → length (digits k n) ≤ k
 unfolding digits
 digits-few zero n = omega arith
@@ -208,13 +205,6 @@ begins-back : (p t : List ℕ) → T (begins p (p ++ t))
 unfolding begins
 begins-back [] t = tt
 begins-back (b ∷ p) t = and-T (eqb b b) (begins p (p ++ t)) (eqb-refl b) (begins-back p t)
-
-pub begins-iff : (p t : List ℕ) → T (begins p t) ↔ (t ≡ p ++ drop (length p) t)
-begins-iff p t = (
-  begins-forth p t,
-  λ e. subst (λ (x : List ℕ). T (begins p x)) (sym e)
-      (begins-back p (drop (length p) t)),
-)
 
 -- a table that fits is the header and a raster of the right length
 pub fits-iff : (w h : ℕ) (t : List ℕ) → T (fits w h t) ↔
