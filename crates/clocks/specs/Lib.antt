@@ -1,11 +1,15 @@
 pub mod Meaning
 pub mod States
+pub mod Encoding
 pub mod Accepted
 pub mod Safe
+pub mod Capped
+pub mod Faults
 pub mod Numbers
 pub mod Edges
 pub mod Agreement
 pub mod Judgement
+pub mod Standing
 pub mod Contract
 pub mod Results
 pub mod Encoded

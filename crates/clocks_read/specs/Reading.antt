@@ -5,13 +5,14 @@ use Rattle.refusals.specs.declared.Refusal.{Refusal}
 use Rattle.refusals.specs.Refusals.{too-many-states, input-without-move, two-edges}
 use Rattle.reader_record.specs.declared.Text.{Text}
 use Rattle.reader_lists.specs.State.{no-text}
-use Rattle.reader.specs.declared.Answer.{Answer}
-use Rattle.reader.specs.declared.Answer.the-variants as parsed
+use Rattle.refusals.specs.declared.Verdict.{Verdict}
+use Rattle.refusals.specs.declared.Verdict.the-variants as verdict
 use Rattle.reader.specs.Reading.{read-text}
 use Rattle.clocks.specs.declared.Judged.{Judged}
-use Rattle.clocks.specs.declared.Judged.the-variants.{Clean, TooMany, NoMove, TwoEdges}
-use Rattle.clocks.specs.States.{state-count, judgement, judged-table, judged-holds}
-use Rattle.clocks_read.specs.declared.ReadAnswer.the-variants.{Accepted, Refused}
+use Rattle.clocks.specs.declared.Judged.the-variants.{Clean, TooManyStates, NoMove, TwoEdges}
+use Rattle.clocks.specs.States.{state-count, judgement}
+use Rattle.clocks.specs.Encoding.{judged-table, judged-holds}
+use Rattle.refusals.specs.declared.Verdict.the-variants.{Accepted, Refused}
 use Rattle.clocks_read.specs.declared.Reading.{Reading}
 
 -- a refused text has the fixed empty record and no states
@@ -21,14 +22,14 @@ refused f = record { answer = Refused f; text = no-text; states = 0 }
 -- codes 9 to 11
 unfoldable pub judged-reading : Judged → Text → Reading
 judged-reading Clean t = record { answer = Accepted; text = t; states = state-count t }
-judged-reading (TooMany n) t = refused (too-many-states n)
+judged-reading (TooManyStates n) t = refused (too-many-states n)
 judged-reading (NoMove s c) t = refused (input-without-move s c)
 judged-reading (TwoEdges s c) t = refused (two-edges s c)
 
 -- codes 1 to 8 come before them
-unfoldable pub parsed-reading : Answer → Text → Reading
-parsed-reading parsed.Accepted t = judged-reading (judgement t) t
-parsed-reading (parsed.Refused f) t = refused f
+unfoldable pub parsed-reading : Verdict → Text → Reading
+parsed-reading verdict.Accepted t = judged-reading (judgement t) t
+parsed-reading (verdict.Refused f) t = refused f
 
 -- reading: the answer, the record and the state count
 unfoldable pub read-outcome : List ℕ → Reading
@@ -40,6 +41,9 @@ pub record Loading : Type 0 where
   pub moves : List ℕ
   pub holds : List ℕ
 
+abbrev pub loading : Reading → List ℕ → List ℕ → Loading
+loading r m h = record { reading = r; moves = m; holds = h }
+
 unfoldable pub judged-loading : Text → List ℕ → List ℕ → Loading
 judged-loading t m h = record {
   reading = judged-reading (judgement t) t;
@@ -48,9 +52,9 @@ judged-loading t m h = record {
       judged-holds t h;
 }
 
-unfoldable pub parsed-loading : Answer → Text → List ℕ → List ℕ → Loading
-parsed-loading parsed.Accepted t m h = judged-loading t m h
-parsed-loading (parsed.Refused f) t m h = record { reading = refused f; moves = m; holds = h }
+unfoldable pub parsed-loading : Verdict → Text → List ℕ → List ℕ → Loading
+parsed-loading verdict.Accepted t m h = judged-loading t m h
+parsed-loading (verdict.Refused f) t m h = record { reading = refused f; moves = m; holds = h }
 
 unfoldable pub load-outcome : List ℕ → List ℕ → List ℕ → Loading
 load-outcome s m h = parsed-loading (read-text s .answer) (read-text s .text) m h

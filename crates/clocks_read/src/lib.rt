@@ -1,28 +1,26 @@
 // Document 01's operation "read": a text is judged by codes 1 to 11, and its record and state count are returned.
 use clocks::Judged;
 use clocks::Ranges;
-use reader::Answer;
+use limits::FEW_BYTES;
+use limits::FEW_MOVES;
+use limits::FEW_STATES;
+use limits::KEEP_LIMIT;
+use limits::MOVE_LIMIT;
 use reader::Parsed;
 use reader_record::Text;
 use refusals::Refusal;
+use refusals::Verdict;
 ghost use mathlib.Core.Path.{_≡_};
 ghost use lib.ListN.{length};
-ghost use Rattle.clocks.specs.States.{state-count, table-limit, bytes-limit};
-ghost use Rattle.clocks_table.specs.Judge.{Room};
+ghost use Rattle.clocks.specs.States.{state-count};
+ghost use Rattle.clocks_table.specs.Room.{Room};
 ghost use Rattle.clocks_read.specs.Reading.{refused, judged-reading, read-outcome, Loading};
-ghost use Rattle.clocks_read.specs.Measured.{Measures, Well-measured, measured-loading, few-entries, few-bytes};
-
-// Texts of so many states are read into small slices: zeroing those for the limit takes longer than reading such a text.
-pub const FEW_STATES: usize = 256;
-
-pub enum ReadAnswer {
-    Accepted,
-    Refused(Refusal),
-}
+ghost use Rattle.clocks_read.specs.Measured.{Measures, Well-measured, measured-loading};
+ghost use Rattle.limits.specs.Limits.{move-limit, keep-limit, few-moves, few-bytes};
 
 // What reading gives. A refused text has the fixed empty record and no states.
 pub struct Reading {
-    pub answer: ReadAnswer,
+    pub answer: Verdict,
     pub text: Text,
     pub states: usize,
 }
@@ -38,7 +36,7 @@ pub struct Measured {
 fn refused(f: Refusal) -> Reading
     ensures { λ r. ⌜ r ≡ refused f ⌝ }
 {
-    let answer = ReadAnswer::Refused(f);
+    let answer = Verdict::Refused(f);
     let text = reader_lists::no_text();
     Reading {
         answer: answer,
@@ -54,31 +52,16 @@ fn answer_of(j: Judged, t: Text, n: usize) -> Reading
 {
     match j {
         Judged::Clean => {
-            let answer = ReadAnswer::Accepted;
+            let answer = Verdict::Accepted;
             Reading {
                 answer: answer,
                 text: t,
                 states: n,
             }
         }
-        Judged::TooMany(states) => refused(Refusal {
-            code: 9,
-            file: 1,
-            p: states,
-            q: 0,
-        }),
-        Judged::NoMove(s, c) => refused(Refusal {
-            code: 10,
-            file: 1,
-            p: s,
-            q: c,
-        }),
-        Judged::TwoEdges(s, c) => refused(Refusal {
-            code: 11,
-            file: 1,
-            p: s,
-            q: c,
-        }),
+        Judged::TooManyStates(states) => refused(Refusal::too_many_states(states)),
+        Judged::NoMove(s, c) => refused(Refusal::input_without_move(s, c)),
+        Judged::TwoEdges(s, c) => refused(Refusal::two_edges(s, c)),
     }
 }
 
@@ -94,7 +77,7 @@ pub fn measure(text: &[u8]) -> Measured
     let parsed = reader::parse(text);
     let answer = parsed.answer;
     match answer {
-        Answer::Refused(_) => {
+        Verdict::Refused(_) => {
             let ranges = no_ranges();
             Measured {
                 parsed,
@@ -102,7 +85,7 @@ pub fn measure(text: &[u8]) -> Measured
                 states: 0,
             }
         }
-        Answer::Accepted => {
+        Verdict::Accepted => {
             let t = parsed.text;
             let ranges = clocks_states::ranges_of(t);
             let states = clocks_states::state_count_of(t.location_count, ranges);
@@ -125,8 +108,8 @@ pub fn judge(m: Measured, moves: &mut [u16], holds: &mut [u8]) -> Reading
     let parsed = m.parsed;
     let answer = parsed.answer;
     match answer {
-        Answer::Refused(f) => refused(f),
-        Answer::Accepted => {
+        Verdict::Refused(f) => refused(f),
+        Verdict::Accepted => {
             let t = parsed.text;
             let ranges = m.ranges;
             let j = clocks_table::judge(t, ranges, m.states, moves, holds);
@@ -136,31 +119,31 @@ pub fn judge(m: Measured, moves: &mut [u16], holds: &mut [u8]) -> Reading
 }
 
 // A move table with room for every text.
-pub fn no_moves() -> [u16; 69632]
-    ensures { λ r. ⌜ length r ≡ table-limit ⌝ }
+pub fn moves_for_any_text() -> [u16; MOVE_LIMIT]
+    ensures { λ r. ⌜ length r ≡ move-limit ⌝ }
 {
-    [0; 69632]
+    [0; MOVE_LIMIT]
 }
 
 // Bits for the states of every text.
-pub fn no_states() -> [u8; 512]
-    ensures { λ r. ⌜ length r ≡ bytes-limit ⌝ }
+pub fn bits_for_any_text() -> [u8; KEEP_LIMIT]
+    ensures { λ r. ⌜ length r ≡ keep-limit ⌝ }
 {
-    [0; 512]
+    [0; KEEP_LIMIT]
 }
 
 // A move table with room for every text of few states.
-pub fn few_moves() -> [u16; 4352]
-    ensures { λ r. ⌜ length r ≡ few-entries ⌝ }
+pub fn moves_for_few_states() -> [u16; FEW_MOVES]
+    ensures { λ r. ⌜ length r ≡ few-moves ⌝ }
 {
-    [0; 4352]
+    [0; FEW_MOVES]
 }
 
 // Bits for few states.
-pub fn few_states() -> [u8; 32]
+pub fn bits_for_few_states() -> [u8; FEW_BYTES]
     ensures { λ r. ⌜ length r ≡ few-bytes ⌝ }
 {
-    [0; 32]
+    [0; FEW_BYTES]
 }
 
 // Reads a text.
@@ -169,11 +152,11 @@ pub fn read(text: &[u8]) -> Reading
 {
     let m = measure(text);
     if m.states <= FEW_STATES {
-        let mut moves = few_moves();
-        let mut holds = few_states();
+        let mut moves = moves_for_few_states();
+        let mut holds = bits_for_few_states();
         return judge(m, &mut moves, &mut holds);
     }
-    let mut moves = no_moves();
-    let mut holds = no_states();
+    let mut moves = moves_for_any_text();
+    let mut holds = bits_for_any_text();
     judge(m, &mut moves, &mut holds)
 }

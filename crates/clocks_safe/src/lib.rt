@@ -1,10 +1,12 @@
+// The safe states of a system whose moves stand in a move table: from the states whose invariant holds, those that fail
+// the test of a safe state are taken out until none does.
 ghost use mathlib.Core.Path.{_≡_};
 ghost use mathlib.Core.Bool.{true, false};
 ghost use Prim.Native.Nat.{_+_, _*_, _/_, _≤_, _<_};
 ghost use lib.ListN.{length, set};
-ghost use Rattle.clocks_bits.specs.Bits.{bit-at};
-ghost use Rattle.clocks_bits.specs.Moves.{Bounded, no-move};
-ghost use Rattle.clocks_bits.specs.Packed.{bytes, Counted, Bitmap};
+ghost use Rattle.bitmaps.specs.Bits.{bit-at};
+ghost use Rattle.move_tables.specs.Moves.{Bounded, no-move};
+ghost use Rattle.bitmaps.specs.Packed.{bytes-for, Counted, Bitmap};
 ghost use Rattle.clocks_safe.specs.Test.{input-passes, own-passes, decides, some-decides, passes, Visits};
 ghost use Rattle.clocks_safe.specs.Settle.{Visited, Settled, Safe-answer};
 
@@ -16,10 +18,10 @@ fn input_passes(keep: &[u8], t: usize, input: bool) -> bool
     if !input {
         return true;
     }
-    if t == clocks_bits::NO_TARGET {
+    if t == move_tables::NO_TARGET {
         return true;
     }
-    clocks_bits::get(keep, t)
+    bitmaps::get(keep, t)
 }
 
 // A step of the system's own is there and stays in the set.
@@ -30,10 +32,10 @@ fn own_passes(keep: &[u8], t: usize, input: bool) -> bool
     if input {
         return false;
     }
-    if t == clocks_bits::NO_TARGET {
+    if t == move_tables::NO_TARGET {
         return false;
     }
-    clocks_bits::get(keep, t)
+    bitmaps::get(keep, t)
 }
 
 // Whether a step decides the test of its state by itself: an input that leaves the set or, with `own`, a step of the
@@ -93,13 +95,13 @@ fn visit(keep: &mut [u8], moves: &[u16], inputs: &[bool], n: usize, steps: usize
     ensures { λ r. ⌜ Visited (now (moves .entry)) (now (inputs .entry)) steps (now (keep .entry)) s (now (keep .exit)) r
         ⌝ }
 {
-    if !clocks_bits::get(keep, s) {
+    if !bitmaps::get(keep, s) {
         return 0;
     }
     if passes(keep, moves, inputs, n, steps, s) {
         return 0;
     }
-    clocks_bits::clear(keep, s);
+    bitmaps::clear(keep, s);
     1
 }
 
@@ -142,12 +144,12 @@ pub fn safe(
     steps: usize,
 ) -> usize
     requires { ⌜ Bounded n steps (now moves) × ((steps ≤ length (now inputs))
-        × (Bitmap n (now holds) × (bytes n ≤ length (now keep)))) ⌝ }
+        × (Bitmap n (now holds) × (bytes-for n ≤ length (now keep)))) ⌝ }
     ensures { λ r. ⌜ Safe-answer (now (holds .entry)) (now (moves .entry)) (now (inputs .entry)) n steps
         (now (keep .entry)) (now (keep .exit)) r ⌝ }
 {
-    let m = (n + 7) / 8;
-    clocks_bits::copy(keep, holds, m);
-    let count = clocks_bits::count(keep, n);
+    let m = bitmaps::bytes_for(n);
+    bitmaps::copy(keep, holds, m);
+    let count = bitmaps::count(keep, n);
     settle(keep, moves, inputs, n, steps, count)
 }

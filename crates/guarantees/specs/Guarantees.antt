@@ -1,41 +1,40 @@
 -- THE GUARANTEES, to be read first. The demands as theorems about the operations' own outcomes (safe-outcome,
 -- search-outcome, check-outcome, widest-outcome), which the contracts of the operations equate with what the code
 -- answers and leaves in the lent slices. The words are defined in Texts.antt and, for systems, in crate systems,
--- Definitions.antt; what each demand asks, clause by clause, is a record or a type of cases in Demands.antt. The
--- other files of this crate are proofs.
-use mathlib.Core.Path.{_≡_}
+-- Definitions.antt, and in crate demands, Words.antt; what each demand asks, clause by clause, is a record or a type of
+-- cases in crate demands, Demands.antt and Answers.antt, and in Demands.antt here. The other files of this crate are
+-- laws: the operations on two texts are instances of those on two systems.
+use mathlib.Core.Path.{_≡_, subst}
 use mathlib.Core.Logic.{_↔_}
 use mathlib.Core.Option.{none, some}
 use mathlib.Core.List.{List}
 use Prim.Native.Nat.{ℕ}
 use Rattle.refusals.specs.declared.Refusal.{Refusal}
 use Rattle.systems.specs.Definitions.{Largest-safe-set}
-use Rattle.systems.specs.Finite.{Safe-at}
-use Rattle.systems.specs.Theorems.{safe-states-largest}
 use Rattle.clocks_read.specs.Laws.{read-accepted}
 use Rattle.two_texts.specs.Two.{two-judged}
+use Rattle.two_texts.specs.Laws.{judged-none, channels-equal, judged-by-some}
 use Rattle.safe_states.specs.Outcome.{safe-outcome}
 use Rattle.search.specs.declared.SearchAnswer.the-variants as search-answer
-use Rattle.search.specs.Outcome.{search-outcome}
+use Rattle.search.specs.Outcome as search
+use Rattle.two_operations.specs.Outcome.{search-outcome, check-outcome, widest-outcome}
 use Rattle.tables.specs.declared.CheckAnswer.the-variants as checked
 use Rattle.tables.specs.declared.WidestAnswer.the-variants as made
-use Rattle.tables.specs.Outcome.{check-outcome, widest-outcome}
-use Rattle.guarantees.specs.Texts.{Accepted-text, meaning, Equal-channels, Consistent, safe-refusal, search-refusal, check-refusal, widest-refusal, Long-enough, Right-form}
-use Rattle.guarantees.specs.Demands.{Search-demand, Check-demand, Widest-demand, Search-answers, Check-answers, Widest-answers, Safe-demand}
-use Rattle.guarantees.specs.Setting.{one-capping}
+use Rattle.tables.specs.Outcome.{Checked, Widened}
+use Rattle.demands.specs.Words.{Consistent, search-refusal, check-refusal, widest-refusal, Long-enough, Right-form}
+use Rattle.demands.specs.Demands.{Search-demand, Check-demand, Widest-demand}
+use Rattle.demands.specs.Theorems as demands
+use Rattle.demands.specs.Answers.{Search-answers, Check-answers, Widest-answers}
+use Rattle.guarantees.specs.Texts.{Accepted-text, states, meaning, number, right-meaning, right-number, Equal-channels, safe-refusal}
+use Rattle.guarantees.specs.Demands.{Safe-demand}
 use Rattle.guarantees.specs.Counted as counted
-use Rattle.guarantees.specs.Searched as searched
-use Rattle.guarantees.specs.Tabled as tabled
-use Rattle.guarantees.specs.Answered as answered
+use Rattle.guarantees.specs.Setting.{nothing-found, one-capping, left-capping, right-capping, by-texts, form-sizes, search-is, check-is, widest-is}
 
 -- Each accepted text has safe states, the largest safe set of its configurations: what the demands say of every such
 -- set S is said of one that there is.
 pub safe-states-exist : (s : List ℕ) (a : Accepted-text s) → (S : meaning s a .State → Type 0)
     × Largest-safe-set (meaning s a) S
-safe-states-exist s a = (
-  Safe-at (one-capping s a (read-accepted s a .accepted)),
-  safe-states-largest (one-capping s a (read-accepted s a .accepted)),
-)
+safe-states-exist s a = demands.safe-states-exist (one-capping s a (read-accepted s a .accepted))
 
 -- The safe-state operation on an accepted text with a keep that is long enough.
 pub safe-states-given : (s : List ℕ) (a : Accepted-text s) (keep : List ℕ)
@@ -47,51 +46,93 @@ safe-states-given = counted.safe-demand
 -- equal channels; then everything lent is as it came.
 pub texts-judged : (left right : List ℕ) → (none ≡ two-judged left right)
     ↔ (Accepted-text left × Accepted-text right × Equal-channels left right)
-texts-judged = answered.nothing-exactly
+texts-judged left right = (
+  λ e. let j = judged-none left right e in (j .left-read, j .right-read, channels-equal left right j),
+  λ (a, b, e). nothing-found left right a b e,
+)
 
 pub search-judged : (left right keep : List ℕ) (back line : ℕ) (run : List ℕ) (r : Refusal)
     → two-judged left right ≡ some r
     → search-outcome left right keep back line run ≡ record { answer = search-answer.Refused r; keep = keep; run = run }
-search-judged = answered.search-refused-first
+unfolding search-outcome
+search-judged left right keep back line run r e = judged-by-some (two-judged left right) _ _ r e
 
 pub check-judged : (left right keep table : List ℕ) (r : Refusal) → two-judged left right ≡ some r
     → check-outcome left right keep table ≡ record { answer = checked.Refused r; keep = keep }
-check-judged = answered.check-refused-first
+unfolding check-outcome
+check-judged left right keep table r e = judged-by-some (two-judged left right) _ _ r e
 
 pub widest-judged : (left right keep table : List ℕ) (r : Refusal) → two-judged left right ≡ some r
     → widest-outcome left right keep table ≡ record { answer = made.Refused r; keep = keep; table = table }
-widest-judged = answered.widest-refused-first
+unfolding widest-outcome
+widest-judged left right keep table r e = judged-by-some (two-judged left right) _ _ r e
 
 module _ (left right : List ℕ) (a : Accepted-text left) (b : Accepted-text right) (e : Equal-channels left right) where
   -- Else it gives the one of the later codes whose case applies, in document 01's order, or succeeds.
   pub demand-1-search : (keep : List ℕ) (back line : ℕ) (run : List ℕ)
-      → Search-answers left right a b keep back line run (search-outcome left right keep back line run)
-  demand-1-search = answered.search-answered left right a b e
+      → Search-answers (meaning left a) (right-meaning left right b) (states left) (states right) (number left a)
+      (right-number left right b) keep back line run (search-outcome left right keep back line run)
+  demand-1-search keep back line run =
+      by-texts left right a b e
+      (λ n w f g o. Search-answers (meaning left a) (right-meaning left right b) n w f g keep back line run o)
+      (search-is left right a b e keep back line run)
+      (demands.demand-1-search (left-capping left right a b e) (right-capping left right a b e) keep back line run)
 
   pub demand-1-check : (keep table : List ℕ)
-      → Check-answers left right a b e keep table (check-outcome left right keep table)
-  demand-1-check = answered.check-answered left right a b e
+      → Check-answers (meaning left a) (right-meaning left right b) (states left) (states right) (number left a)
+      (right-number left right b) keep table (check-outcome left right keep table)
+  demand-1-check keep table =
+      by-texts left right a b e
+      (λ n w f g o. Check-answers (meaning left a) (right-meaning left right b) n w f g keep table o)
+      (check-is left right a b e keep table)
+      (demands.demand-1-check (left-capping left right a b e) (right-capping left right a b e) keep table)
 
   pub demand-1-widest : (keep table : List ℕ)
-      → Widest-answers left right a keep table (widest-outcome left right keep table)
-  demand-1-widest = answered.widest-answered left right a b e
+      → Widest-answers (meaning left a) (right-meaning left right b) (states left) (states right) (number left a)
+      (right-number left right b) keep table (widest-outcome left right keep table)
+  demand-1-widest keep table =
+      by-texts left right a b e
+      (λ n w f g o. Widest-answers (meaning left a) (right-meaning left right b) n w f g keep table o)
+      (widest-is left right a b e keep table)
+      (demands.demand-1-widest (left-capping left right a b e) (right-capping left right a b e) keep table)
 
   -- With a consistent left and slices that are long enough:
-  module _ (consistent : Consistent left a) where
+  module _ (consistent : Consistent (meaning left a)) where
     -- DEMAND 2, the check of a table with a right header and a right length.
-    pub demand-2-check : (keep table : List ℕ) → Right-form left right table
+    pub demand-2-check : (keep table : List ℕ) → Right-form (states left) (states right) table
         → Long-enough (check-refusal (check-outcome left right keep table .answer))
-        → Check-demand left right a b keep table (check-outcome left right keep table)
-    demand-2-check = tabled.demand-2-check left right a b e consistent
+        → Check-demand (meaning left a) (right-meaning left right b) (states left) (states right) (number left a)
+        (right-number left right b) keep table (check-outcome left right keep table)
+    demand-2-check keep table form long =
+        by-texts left right a b e
+        (λ n w f g o. Check-demand (meaning left a) (right-meaning left right b) n w f g keep table o)
+        (check-is left right a b e keep table)
+        (demands.demand-2-check (left-capping left right a b e) (right-capping left right a b e) consistent keep table
+        (form-sizes left right a b e (λ n w. Right-form n w table) form)
+        (subst (λ (o : Checked). Long-enough (check-refusal (o .answer))) (check-is left right a b e keep table) long))
 
     -- DEMAND 2, the widest table.
     pub demand-2-widest : (keep table : List ℕ)
         → Long-enough (widest-refusal (widest-outcome left right keep table .answer))
-        → Widest-demand left right a b keep table (widest-outcome left right keep table)
-    demand-2-widest = tabled.demand-2-widest left right a b e consistent
+        → Widest-demand (meaning left a) (right-meaning left right b) (states left) (states right) (number left a)
+        (right-number left right b) keep table (widest-outcome left right keep table)
+    demand-2-widest keep table long =
+        by-texts left right a b e
+        (λ n w f g o. Widest-demand (meaning left a) (right-meaning left right b) n w f g keep table o)
+        (widest-is left right a b e keep table)
+        (demands.demand-2-widest (left-capping left right a b e) (right-capping left right a b e) consistent keep table
+        (subst (λ (o : Widened). Long-enough (widest-refusal (o .answer))) (widest-is left right a b e keep table)
+        long))
 
     -- DEMAND 3, the search.
     pub demand-3 : (keep : List ℕ) (back line : ℕ) (run : List ℕ)
         → Long-enough (search-refusal (search-outcome left right keep back line run .answer))
-        → Search-demand left right a b keep run (search-outcome left right keep back line run)
-    demand-3 = searched.demand-3 left right a b e consistent
+        → Search-demand (meaning left a) (right-meaning left right b) (states left) (states right) (number left a)
+        (right-number left right b) keep run (search-outcome left right keep back line run)
+    demand-3 keep back line run long =
+        by-texts left right a b e
+        (λ n w f g o. Search-demand (meaning left a) (right-meaning left right b) n w f g keep run o)
+        (search-is left right a b e keep back line run)
+        (demands.demand-3 (left-capping left right a b e) (right-capping left right a b e) consistent keep back line run
+        (subst (λ (o : search.Outcome). Long-enough (search-refusal (o .answer)))
+        (search-is left right a b e keep back line run) long))

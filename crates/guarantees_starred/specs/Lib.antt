@@ -1,3 +1,4 @@
+pub mod Sentences
 pub mod Opened
 pub mod Posts
 pub mod Runs

@@ -8,40 +8,40 @@ use Prim.Native.Nat.{ℕ, _≤_}
 use lib.Dec.{T}
 use lib.ListN.{length}
 use Rattle.refusals.specs.declared.Refusal.{Refusal}
+use Rattle.refusals.specs.Refusals.{keep-too-short, table-too-short, queue-too-short, run-too-short}
 use Rattle.reader_examples.specs.Texts.{post}
-use Rattle.reader_examples.specs.Records.{post-record}
 use Rattle.systems.specs.Bools.{none-some}
 use Rattle.systems.specs.Tests.{at}
 use Rattle.systems.specs.Finite.{safe}
 use Rattle.systems.specs.Theorems.{implementation-iff}
-use Rattle.search.specs.Outcome.{search-outcome}
-use Rattle.tables.specs.Outcome.{check-outcome, widest-outcome}
+use Rattle.two_operations.specs.Outcome.{search-outcome, check-outcome, widest-outcome}
 use Rattle.tables_header.specs.Header.{fits}
-use Rattle.guarantees.specs.Texts.{Accepted-text, Equal-channels, Consistent, Long-enough, search-refusal, check-refusal, widest-refusal, Right-form}
+use Rattle.demands.specs.Words.{Consistent, Long-enough, search-refusal, check-refusal, widest-refusal, Right-form}
+use Rattle.guarantees.specs.Texts.{Accepted-text, states, meaning, Equal-channels}
 use Rattle.guarantees.specs.Setting.{left-capping, Left}
-use Rattle.guarantees_starred.specs.Posts.{post-outcome, post-keep}
+use Rattle.guarantees_starred.specs.Posts.{post-keep, post-known}
 use Rattle.guarantees_starred.specs.Runs.{post-post-equal}
-use Rattle.guarantees_starred.specs.Tables.{ten-by-ten, diagonal-raster, diagonal-fits}
-use Rattle.guarantees_starred.specs.Outcomes.{Room, left-accepted, right-accepted, channels-equal, of-texts}
-use Rattle.guarantees_starred.specs.Starred.{Facts, post-post-facts, starred-posts}
+use Rattle.guarantees_starred.specs.Sentences.{Room, ten-by-ten, diagonal-raster}
+use Rattle.guarantees_starred.specs.Tables.{diagonal-fits}
+use Rattle.guarantees_starred.specs.Outcomes.{left-accepted, right-accepted, channels-equal, facts}
+use Rattle.guarantees_starred.specs.Starred.{starred-posts}
 
 -- an accepted text
 pub post-accepted : Accepted-text post
-post-accepted = left-accepted post post post-record post-record post-outcome post-outcome post-post-equal
+post-accepted = left-accepted post-known post-known post-post-equal
 
 -- equal channels
 pub post-channels : Equal-channels post post
-post-channels = channels-equal post post post-record post-record post-outcome post-outcome post-post-equal
+post-channels = channels-equal post-known post-known post-post-equal
 
 -- a consistent left
-pub post-consistent : Consistent post post-accepted
+pub post-consistent : Consistent (meaning post post-accepted)
 unfolding post-accepted
 post-consistent =
-    let f = of-texts post post post-record post-record post-outcome post-outcome post-post-equal
-    (Facts 10 10 post-keep post post) post-post-facts in
-    let a = left-accepted post post post-record post-record post-outcome post-outcome post-post-equal in
-    let b = right-accepted post post post-record post-record post-outcome post-outcome post-post-equal in
-    let e = channels-equal post post post-record post-record post-outcome post-outcome post-post-equal in
+    let f = facts post-known post-known post-post-equal in
+    let a = left-accepted post-known post-known post-post-equal in
+    let b = right-accepted post-known post-known post-post-equal in
+    let e = channels-equal post-known post-known post-post-equal in
     let L = Left post post a b e in
     let s : safe L (L .start) ≡ true = ap (λ (X : List Bool). at X (L .start)) (f .safe)
     ∙ ap (at post-keep) (f .start) in
@@ -50,10 +50,10 @@ post-consistent =
 -- slices that are long enough
 no-refusal : (o : Option Refusal) → o ≡ none → Long-enough o
 no-refusal o e = record {
-  keep = λ r q c. none-some r (sym e ∙ q);
-  table = λ r q c. none-some r (sym e ∙ q);
-  queue = λ r q c. none-some r (sym e ∙ q);
-  run = λ r q c. none-some r (sym e ∙ q);
+  keep = λ n q. none-some (keep-too-short n) (sym e ∙ q);
+  table = λ n q. none-some (table-too-short n) (sym e ∙ q);
+  queue = λ n q. none-some (queue-too-short n) (sym e ∙ q);
+  run = λ n q. none-some (run-too-short n) (sym e ∙ q);
 }
 
 pub post-search-long : (keep : List ℕ) (back line : ℕ) (run : List ℕ) → Room 10 10 0 keep back line run
@@ -78,6 +78,6 @@ post-widest-long keep table h k =
     (ap widest-refusal (starred-posts .post-widest keep table h k .0))
 
 -- a table with a right header and a right length
-pub post-form : Right-form post post (ten-by-ten diagonal-raster)
+pub post-form : Right-form (states post) (states post) (ten-by-ten diagonal-raster)
 post-form = subst T (ap (λ (n : ℕ). fits n n (ten-by-ten diagonal-raster)) (sym (starred-posts .post-states)))
     (subst T (sym diagonal-fits) tt)

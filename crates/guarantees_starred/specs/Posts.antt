@@ -6,7 +6,7 @@ use Prim.Native.Nat.{ℕ}
 use Rattle.systems.specs.Finite.{safe-states}
 use Rattle.systems.specs.Compute.{safe-fast-same}
 use Rattle.reader_record.specs.declared.Text.{Text}
-use Rattle.reader.specs.declared.Answer.the-variants as parsed
+use Rattle.refusals.specs.declared.Verdict.the-variants as verdict
 use Rattle.reader.specs.declared.Parsed.{Parsed}
 use Rattle.reader.specs.Reading.{read-text}
 use Rattle.reader_examples.specs.Texts.{post, rearm, early, hush, idle}
@@ -14,90 +14,85 @@ use Rattle.reader_examples.specs.Records.{post-record, rearm-record, early-reco
 use Rattle.reader_examples.specs.Read.{post-read, rearm-read, early-read, hush-read, idle-read}
 use Rattle.clocks.specs.declared.Judged.the-variants.{Clean}
 use Rattle.clocks.specs.Accepted.{Accepted}
-use Rattle.clocks.specs.States.{state-count, judgement}
+use Rattle.clocks.specs.States.{state-count, start-state, judgement}
 use Rattle.clocks.specs.Contract.{system}
-use Rattle.clocks_read.specs.declared.ReadAnswer.the-variants as read
 use Rattle.clocks_read.specs.declared.Reading.{Reading}
 use Rattle.clocks_read.specs.Reading.{judged-reading, parsed-reading, read-outcome}
-use Rattle.guarantees_starred.specs.Opened.{opened-states, opened}
+use Rattle.guarantees_starred.specs.Opened.{opened}
 
 -- what reading gives for a text with the record t
 abbrev pub reading-of : Text → Reading
-reading-of t = record { answer = read.Accepted; text = t; states = state-count t }
+reading-of t = record { answer = verdict.Accepted; text = t; states = state-count t }
 
-pub read-known : (s : List ℕ) (t : Text) → read-text s ≡ record { answer = parsed.Accepted; text = t } → judgement t
+read-known : (s : List ℕ) (t : Text) → read-text s ≡ record { answer = verdict.Accepted; text = t } → judgement t
     ≡ Clean
     → read-outcome s ≡ reading-of t
 unfolding read-outcome parsed-reading judged-reading
 read-known s t e c = ap (λ (p : Parsed). parsed-reading (p .answer) (p .text)) e ∙ rw c
 
-post-clean : judgement post-record ≡ Clean
-unfolding opened-states
-post-clean = refl
+-- what is computed of a text: it is read and accepted, the number of its states, that it starts in 0, its safe states
+pub record Known (s : List ℕ) (t : Text) (n : ℕ) (K : List Bool) : Type 0 where
+  pub read : read-outcome s ≡ reading-of t
+  pub size : state-count t ≡ n
+  pub start : start-state t ≡ 0
+  pub safe : (a : Accepted t) → safe-states (system t a) ≡ K
 
-pub post-outcome : read-outcome post ≡ reading-of post-record
-post-outcome = read-known post post-record post-read post-clean
-
-rearm-clean : judgement rearm-record ≡ Clean
-unfolding opened-states
-rearm-clean = refl
-
-pub rearm-outcome : read-outcome rearm ≡ reading-of rearm-record
-rearm-outcome = read-known rearm rearm-record rearm-read rearm-clean
-
-early-clean : judgement early-record ≡ Clean
-unfolding opened-states
-early-clean = refl
-
-pub early-outcome : read-outcome early ≡ reading-of early-record
-early-outcome = read-known early early-record early-read early-clean
-
-hush-clean : judgement hush-record ≡ Clean
-unfolding opened-states
-hush-clean = refl
-
-pub hush-outcome : read-outcome hush ≡ reading-of hush-record
-hush-outcome = read-known hush hush-record hush-read hush-clean
-
-idle-clean : judgement idle-record ≡ Clean
-unfolding opened-states
-idle-clean = refl
-
-pub idle-outcome : read-outcome idle ≡ reading-of idle-record
-idle-outcome = read-known idle idle-record idle-read idle-clean
-
--- the safe states
 abbrev pub post-keep : List Bool
 post-keep = true ∷ true ∷ true ∷ true ∷ false ∷ true ∷ true ∷ true ∷ true ∷ true ∷ []
 
-pub post-safe : (a : Accepted post-record) → safe-states (system post-record a) ≡ post-keep
+pub post-known : Known post post-record 10 post-keep
 unfolding opened
-post-safe a = sym (safe-fast-same (system post-record a))
+post-known = record {
+  read = read-known post post-record post-read refl;
+  size = refl;
+  start = refl;
+  safe = λ a. sym (safe-fast-same (system post-record a));
+}
 
 abbrev pub rearm-keep : List Bool
 rearm-keep = true ∷ true ∷ true ∷ true ∷ false ∷ true ∷ true ∷ true ∷ true ∷ true ∷ []
 
-pub rearm-safe : (a : Accepted rearm-record) → safe-states (system rearm-record a) ≡ rearm-keep
+pub rearm-known : Known rearm rearm-record 10 rearm-keep
 unfolding opened
-rearm-safe a = sym (safe-fast-same (system rearm-record a))
+rearm-known = record {
+  read = read-known rearm rearm-record rearm-read refl;
+  size = refl;
+  start = refl;
+  safe = λ a. sym (safe-fast-same (system rearm-record a));
+}
 
 abbrev pub early-keep : List Bool
 early-keep = true ∷ true ∷ true ∷ false ∷ true ∷ true ∷ true ∷ true ∷ []
 
-pub early-safe : (a : Accepted early-record) → safe-states (system early-record a) ≡ early-keep
+pub early-known : Known early early-record 8 early-keep
 unfolding opened
-early-safe a = sym (safe-fast-same (system early-record a))
+early-known = record {
+  read = read-known early early-record early-read refl;
+  size = refl;
+  start = refl;
+  safe = λ a. sym (safe-fast-same (system early-record a));
+}
 
 abbrev pub hush-keep : List Bool
 hush-keep = false ∷ false ∷ false ∷ false ∷ false ∷ true ∷ true ∷ true ∷ true ∷ true ∷ []
 
-pub hush-safe : (a : Accepted hush-record) → safe-states (system hush-record a) ≡ hush-keep
+pub hush-known : Known hush hush-record 10 hush-keep
 unfolding opened
-hush-safe a = sym (safe-fast-same (system hush-record a))
+hush-known = record {
+  read = read-known hush hush-record hush-read refl;
+  size = refl;
+  start = refl;
+  safe = λ a. sym (safe-fast-same (system hush-record a));
+}
 
 abbrev pub idle-keep : List Bool
 idle-keep = true ∷ true ∷ true ∷ true ∷ []
 
-pub idle-safe : (a : Accepted idle-record) → safe-states (system idle-record a) ≡ idle-keep
+pub idle-known : Known idle idle-record 4 idle-keep
 unfolding opened
-idle-safe a = sym (safe-fast-same (system idle-record a))
+idle-known = record {
+  read = read-known idle idle-record idle-read refl;
+  size = refl;
+  start = refl;
+  safe = λ a. sym (safe-fast-same (system idle-record a));
+}

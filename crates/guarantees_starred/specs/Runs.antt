@@ -3,7 +3,7 @@
 use mathlib.Core.Path.{_≡_, refl}
 use mathlib.Core.List.{List, [], _∷_}
 use Prim.Native.Nat.{ℕ}
-use Rattle.systems.specs.Definitions.{Input}
+use Rattle.systems.specs.Definitions.{tick, Input}
 use Rattle.systems.specs.Finite.{Finite-system, search-run}
 use Rattle.systems.specs.Renumbered.{renumbered}
 use Rattle.systems.specs.Compute.{search-by}
@@ -15,7 +15,7 @@ use Rattle.clocks.specs.Contract.{signature, system}
 use Rattle.pairing.specs.Channels.{unmatched, right-step}
 use Rattle.pairing.specs.declared.Matched.the-variants.{Equal}
 use Rattle.guarantees_starred.specs.Opened.{opened-states, opened-pairing, opened}
-use Rattle.guarantees_starred.specs.Posts.{post-keep, post-safe, rearm-keep, rearm-safe, early-keep, early-safe, idle-keep, idle-safe}
+use Rattle.guarantees_starred.specs.Posts.{post-keep, post-known, rearm-keep, rearm-known, early-keep, early-known, idle-keep, idle-known}
 
 -- what is known of two records that are compared, s and u being the bytes of their texts
 pub record Pair (s u : List ℕ) (l r : Text) : Type 0 where
@@ -61,29 +61,29 @@ hush-post-equal = refl
 -- the runs that the search finds
 pub post-post-run : (p : Pair post post post-record post-record) → search-run (left-of p) (right-of p) ≡ []
 unfolding opened
-post-post-run p = search-by (left-of p) (right-of p) post-keep (post-safe (p .left-text)) tt
+post-post-run p = search-by (left-of p) (right-of p) post-keep (post-known .safe (p .left-text)) tt
 
 pub early-post-run : (p : Pair early post early-record post-record) → search-run (left-of p) (right-of p)
-    ≡ 0 ∷ 0 ∷ 3 ∷ []
+    ≡ tick ∷ tick ∷ 3 ∷ []
 unfolding opened
-early-post-run p = search-by (left-of p) (right-of p) early-keep (early-safe (p .left-text)) tt
+early-post-run p = search-by (left-of p) (right-of p) early-keep (early-known .safe (p .left-text)) tt
 
 pub idle-post-run : (p : Pair idle post idle-record post-record) → search-run (left-of p) (right-of p)
-    ≡ 0 ∷ 0 ∷ 0 ∷ 0 ∷ []
+    ≡ tick ∷ tick ∷ tick ∷ tick ∷ []
 unfolding opened
-idle-post-run p = search-by (left-of p) (right-of p) idle-keep (idle-safe (p .left-text)) tt
+idle-post-run p = search-by (left-of p) (right-of p) idle-keep (idle-known .safe (p .left-text)) tt
 
 pub post-idle-run : (p : Pair post idle post-record idle-record) → search-run (left-of p) (right-of p)
-    ≡ 0 ∷ 0 ∷ 0 ∷ 3 ∷ []
+    ≡ tick ∷ tick ∷ tick ∷ 3 ∷ []
 unfolding opened
-post-idle-run p = search-by (left-of p) (right-of p) post-keep (post-safe (p .left-text)) tt
+post-idle-run p = search-by (left-of p) (right-of p) post-keep (post-known .safe (p .left-text)) tt
 
 pub post-hush-run : (p : Pair post hush post-record hush-record) → search-run (left-of p) (right-of p)
-    ≡ 0 ∷ 0 ∷ 0 ∷ 3 ∷ []
+    ≡ tick ∷ tick ∷ tick ∷ 3 ∷ []
 unfolding opened
-post-hush-run p = search-by (left-of p) (right-of p) post-keep (post-safe (p .left-text)) tt
+post-hush-run p = search-by (left-of p) (right-of p) post-keep (post-known .safe (p .left-text)) tt
 
 pub rearm-post-run : (p : Pair rearm post rearm-record post-record) → search-run (left-of p) (right-of p)
-    ≡ 0 ∷ 0 ∷ 0 ∷ 2 ∷ 0 ∷ []
+    ≡ tick ∷ tick ∷ tick ∷ 2 ∷ tick ∷ []
 unfolding opened
-rearm-post-run p = search-by (left-of p) (right-of p) rearm-keep (rearm-safe (p .left-text)) tt
+rearm-post-run p = search-by (left-of p) (right-of p) rearm-keep (rearm-known .safe (p .left-text)) tt

@@ -1,5 +1,5 @@
 -- The safe-state operation on the texts' bytes.
-use mathlib.Core.Path.{_≡_, ap, subst, _∙_}
+use mathlib.Core.Path.{_≡_, sym, ap, subst, _∙_}
 use mathlib.Core.Bool.{Bool, true, false}
 use mathlib.Core.List.{List}
 use Prim.Native.Nat.{ℕ, _≤_}
@@ -10,44 +10,42 @@ use Rattle.reader_record.specs.declared.Text.{Text}
 use Rattle.reader_examples.specs.Texts.{post, hush}
 use Rattle.reader_examples.specs.Records.{post-record, hush-record}
 use Rattle.systems.specs.Tests.{at, ones}
-use Rattle.systems.specs.Finite as finite
 use Rattle.clocks.specs.States.{state-count, start-state}
 use Rattle.clocks.specs.Safe.{safe-states}
 use Rattle.clocks.specs.Encoded.{safe-states-same}
 use Rattle.clocks.specs.Accepted.{Accepted}
-use Rattle.clocks.specs.Contract.{system}
-use Rattle.clocks_bits.specs.Packed.{bytes}
+use Rattle.bitmaps.specs.Packed.{bytes-for}
 use Rattle.clocks_read.specs.declared.Reading.{Reading}
-use Rattle.clocks_read.specs.Reading.{read-outcome}
 use Rattle.clocks_read.specs.Laws.{read-accepted}
 use Rattle.safe_states.specs.declared.SafeAnswer.the-variants.{Found}
 use Rattle.safe_states.specs.Outcome.{Outcome, found-outcome, kept-outcome, answered, safe-outcome}
-use Rattle.guarantees_starred.specs.Opened.{opened-states}
-use Rattle.guarantees_starred.specs.Posts.{reading-of, post-outcome, hush-outcome, post-keep, hush-keep, post-safe, hush-safe}
+use Rattle.guarantees_starred.specs.Posts.{Known, post-keep, post-known, hush-keep, hush-known}
 
 -- a text that reads to the record t, whose safe states are K
-safe-found : (s : List ℕ) (t : Text) (K : List Bool) → read-outcome s ≡ reading-of t
-    → ((a : Accepted t) → finite.safe-states (system t a) ≡ K) → (keep : List ℕ) → bytes (state-count t) ≤ length keep
-    → safe-outcome s keep .answer ≡ Found (ones K) (at K (start-state t))
+safe-found : (s : List ℕ) (t : Text) (n : ℕ) (K : List Bool) → Known s t n K → (keep : List ℕ)
+    → bytes-for n ≤ length keep → safe-outcome s keep .answer ≡ Found (ones K) (at K 0)
 unfolding safe-outcome answered kept-outcome found-outcome
-safe-found s t K e f keep h =
+safe-found s t n K x keep h =
+    let e = x .read in
     let a : Accepted t = subst Accepted (ap (λ (o : Reading). o .text) e)
     (read-accepted s (ap (λ (o : Reading). o .answer) e) .accepted) in
-    let k : safe-states t ≡ K = safe-states-same t a ∙ f a in
-    let l : ltb (length keep) (bytes (state-count t)) ≡ false = le-ltb (length keep) (bytes (state-count t)) h in
+    let k : safe-states t ≡ K = safe-states-same t a ∙ x .safe a in
+    let l : ltb (length keep) (bytes-for (state-count t)) ≡ false = le-ltb (length keep) (bytes-for (state-count t))
+    (subst (λ (i : ℕ). bytes-for i ≤ length keep) (sym (x .size)) h) in
     ap (λ (o : Reading). answered (o .answer) (o .text) keep .answer) e
     ∙ ap (λ (o : Outcome). o .answer) (long t keep l)
     ∙ ap (λ (X : List Bool). Found (ones X) (at X (start-state t))) k
+    ∙ ap (λ (i : ℕ). Found (ones K) (at K i)) (x .start)
   where
-    long : (t : Text) (keep : List ℕ) → ltb (length keep) (bytes (state-count t)) ≡ false → kept-outcome t keep
+    long : (t : Text) (keep : List ℕ) → ltb (length keep) (bytes-for (state-count t)) ≡ false → kept-outcome t keep
         ≡ found-outcome t keep
     long t keep l = rw (l, kept-outcome)
 
 -- "Post has 10 states, 9 safe"; "Hush 5 safe"
 pub post-counted : (keep : List ℕ) → 2 ≤ length keep → safe-outcome post keep .answer ≡ Found 9 true
-unfolding opened-states ones
-post-counted keep h = safe-found post post-record post-keep post-outcome post-safe keep h
+unfolding ones
+post-counted = safe-found post post-record 10 post-keep post-known
 
 pub hush-counted : (keep : List ℕ) → 2 ≤ length keep → safe-outcome hush keep .answer ≡ Found 5 false
-unfolding opened-states ones
-hush-counted keep h = safe-found hush hush-record hush-keep hush-outcome hush-safe keep h
+unfolding ones
+hush-counted = safe-found hush hush-record 10 hush-keep hush-known

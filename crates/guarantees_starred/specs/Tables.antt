@@ -1,49 +1,28 @@
 -- The tables of the posts: the widest ones, and the checks of two given ones, computed.
 use mathlib.Core.Path.{_≡_, refl, ap}
 use mathlib.Core.Bool.{Bool, true, false, not, _&&_, cond}
-use mathlib.Core.List.{List, [], _∷_, _++_}
+use mathlib.Core.List.{List, [], _∷_}
 use Prim.Native.Nat.{ℕ, suc}
 use Rattle.systems.specs.Tests.{at, ones, table, sieve, least}
-use Rattle.systems.specs.Definitions.{Signature}
+use Rattle.systems.specs.Definitions.{tick, Signature}
 use Rattle.systems.specs.Finite.{Finite-system, safe-states, widest, if-in, pruned, step-ok}
 use Rattle.systems.specs.Compute.{widest-by}
 use Rattle.reader_examples.specs.Texts.{post, rearm}
 use Rattle.reader_examples.specs.Records.{post-record, rearm-record}
-use Rattle.clocks_bits.specs.Bits.{bit-at, byte-of, tab-from}
-use Rattle.tables_check.specs.Fault.{step-fault, picked, row-from, table-from}
+use Rattle.bitmaps.specs.Bits.{bit-at, byte-of, tab-from}
+use Rattle.tables_check.specs.Fault.{step, step-fault, picked, row-from, table-from}
 use Rattle.tables_check.specs.declared.Fault.{Fault}
 use Rattle.tables_check.specs.declared.Fault.the-variants.{Fine, NotAllowed}
 use Rattle.tables_check.specs.declared.Found.{Found}
 use Rattle.tables_check.specs.declared.Found.the-variants.{Passed, BrokenAt}
-use Rattle.tables_check.specs.Judged.{breaks, least-broken, pair-fault, judged}
-use Rattle.tables_header.specs.Header.{ascii, digit, digits, decimal, header, header-bytes, table-bytes, begins, fits}
+use Rattle.tables_check.specs.Judged.{breaks, least-broken, pair-fault, pairs-judged}
+use Rattle.tables_header.specs.Header.{digit, digits, decimal, header, header-bytes, table-bytes, begins, fits}
 use Rattle.tables_rows.specs.Raster.{set-at, denoted, in-row, raster}
-use Rattle.tables_whole.specs.Answer.{table-file}
+use Rattle.tables_whole.specs.TableFile.{table-file}
+use Rattle.guarantees_starred.specs.Sentences.{widest-raster, diagonal-raster, start-raster, ten-by-ten}
 use Rattle.guarantees_starred.specs.Opened.{opened}
-use Rattle.guarantees_starred.specs.Posts.{post-keep, post-safe, rearm-keep, rearm-safe}
+use Rattle.guarantees_starred.specs.Posts.{post-keep, post-known, rearm-keep, rearm-known}
 use Rattle.guarantees_starred.specs.Runs.{Pair, left-of, right-of}
-
--- "raster rows 80 00, 40 00, 20 00, 10 00, 00 00, then five of 07 C0"
-abbrev pub widest-raster : List ℕ
-widest-raster =
-    0x80 ∷ 0x00 ∷ 0x40 ∷ 0x00 ∷ 0x20 ∷ 0x00 ∷ 0x10 ∷ 0x00 ∷ 0x00 ∷ 0x00
-    ∷ 0x07 ∷ 0xC0 ∷ 0x07 ∷ 0xC0 ∷ 0x07 ∷ 0xC0 ∷ 0x07 ∷ 0xC0 ∷ 0x07 ∷ 0xC0 ∷ []
-
--- "the 9 safe diagonal pairs"
-abbrev pub diagonal-raster : List ℕ
-diagonal-raster =
-    0x80 ∷ 0x00 ∷ 0x40 ∷ 0x00 ∷ 0x20 ∷ 0x00 ∷ 0x10 ∷ 0x00 ∷ 0x00 ∷ 0x00
-    ∷ 0x04 ∷ 0x00 ∷ 0x02 ∷ 0x00 ∷ 0x01 ∷ 0x00 ∷ 0x00 ∷ 0x80 ∷ 0x00 ∷ 0x40 ∷ []
-
--- "only the start pair"
-abbrev pub start-raster : List ℕ
-start-raster =
-    0x80 ∷ 0x00 ∷ 0x00 ∷ 0x00 ∷ 0x00 ∷ 0x00 ∷ 0x00 ∷ 0x00 ∷ 0x00 ∷ 0x00
-    ∷ 0x00 ∷ 0x00 ∷ 0x00 ∷ 0x00 ∷ 0x00 ∷ 0x00 ∷ 0x00 ∷ 0x00 ∷ 0x00 ∷ 0x00 ∷ []
-
--- a table of 10 by 10 states with this raster
-abbrev pub ten-by-ten : List ℕ → List ℕ
-ten-by-ten r = ascii "P4\n10 10\n" ++ r
 
 -- the widest table of Post against Post, row after row
 abbrev pub post-pairs : List Bool
@@ -61,7 +40,7 @@ post-pairs =
 
 pub post-widest : (p : Pair post post post-record post-record) → widest (left-of p) (right-of p) ≡ post-pairs
 unfolding opened
-post-widest p = widest-by (left-of p) (right-of p) post-keep (post-safe (p .left-text))
+post-widest p = widest-by (left-of p) (right-of p) post-keep (post-known .safe (p .left-text))
 
 -- how many there are, and the file
 pub post-count : ones post-pairs ≡ 29
@@ -87,12 +66,12 @@ header-size = refl
 -- Rearm against Post: 25 pairs, and the start pair is not one
 pub rearm-count : (p : Pair rearm post rearm-record post-record) → ones (widest (left-of p) (right-of p)) ≡ 25
 unfolding opened
-rearm-count p = ap ones (widest-by (left-of p) (right-of p) rearm-keep (rearm-safe (p .left-text)))
+rearm-count p = ap ones (widest-by (left-of p) (right-of p) rearm-keep (rearm-known .safe (p .left-text)))
 
 pub rearm-start : (p : Pair rearm post rearm-record post-record) → at (widest (left-of p) (right-of p)) 0 ≡ false
 unfolding opened
 rearm-start p = ap (λ (X : List Bool). at X 0)
-    (widest-by (left-of p) (right-of p) rearm-keep (rearm-safe (p .left-text)))
+    (widest-by (left-of p) (right-of p) rearm-keep (rearm-known .safe (p .left-text)))
 
 -- the check with the left's safe states handed over
 module _ {A : Signature} (L R : Finite-system A) (X : ℕ → ℕ → Bool) where
@@ -107,8 +86,8 @@ module _ {A : Signature} (L R : Finite-system A) (X : ℕ → ℕ → Bool) wher
   unfoldable pub judged-with : List Bool → Found
   judged-with K = table-from (fault-with K) (R .size) (L .size) 0
 
-  pub judged-by : (K : List Bool) → safe-states L ≡ K → judged L R X ≡ judged-with K
-  unfolding judged pair-fault least-broken breaks pruned broken-with fault-with judged-with
+  pub judged-by : (K : List Bool) → safe-states L ≡ K → pairs-judged L R X ≡ judged-with K
+  unfolding pairs-judged pair-fault least-broken breaks pruned broken-with fault-with judged-with
   judged-by K e = ap judged-with e
 
 unfoldable pub opened-check : Unit {0}
@@ -116,14 +95,18 @@ unfolding opened broken-with fault-with judged-with step-fault picked row-from t
 opened-check = tt
 
 pub diagonal-judged : (p : Pair post post post-record post-record)
-    → judged (left-of p) (right-of p) (set-at 10 diagonal-raster) ≡ Passed
+    → pairs-judged (left-of p) (right-of p) (set-at 10 diagonal-raster) ≡ Passed
 unfolding opened-check
-diagonal-judged p = judged-by (left-of p) (right-of p) (set-at 10 diagonal-raster) post-keep (post-safe (p .left-text))
+diagonal-judged p = judged-by (left-of p) (right-of p) (set-at 10 diagonal-raster) post-keep (post-known .safe (p .left-text))
+
+-- the tick breaks a rule at the start pair
+abbrev pub start-fault : Found
+start-fault = BrokenAt (step tick) 0 0
 
 pub start-judged : (p : Pair post post post-record post-record)
-    → judged (left-of p) (right-of p) (set-at 10 start-raster) ≡ BrokenAt 0 0 0
+    → pairs-judged (left-of p) (right-of p) (set-at 10 start-raster) ≡ start-fault
 unfolding opened-check
-start-judged p = judged-by (left-of p) (right-of p) (set-at 10 start-raster) post-keep (post-safe (p .left-text))
+start-judged p = judged-by (left-of p) (right-of p) (set-at 10 start-raster) post-keep (post-known .safe (p .left-text))
 
 pub diagonal-count : ones (denoted 10 10 diagonal-raster) ≡ 9
 unfolding ones denoted table sieve bit-at

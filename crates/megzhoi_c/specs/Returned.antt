@@ -4,10 +4,12 @@ use mathlib.Core.Bool.{Bool, cond}
 use mathlib.Core.List.{List}
 use Prim.Native.Nat.{ℕ}
 use Rattle.refusals.specs.declared.Refusal.{Refusal}
+use Rattle.refusals.specs.Refusals.{no-file}
+use Rattle.megzhoi_c.specs.declared.Returned.{Returned}
 use Rattle.reader_record.specs.declared.Text.{Text}
 use Rattle.reader_numbers.specs.Numbers.{put-at, numbers}
-use Rattle.clocks_read.specs.declared.ReadAnswer.{ReadAnswer}
-use Rattle.clocks_read.specs.declared.ReadAnswer.the-variants as read
+use Rattle.refusals.specs.declared.Verdict.{Verdict}
+use Rattle.refusals.specs.declared.Verdict.the-variants as verdict
 use Rattle.safe_states.specs.declared.SafeAnswer.{SafeAnswer}
 use Rattle.safe_states.specs.declared.SafeAnswer.the-variants as safe
 use Rattle.search.specs.declared.SearchAnswer.{SearchAnswer}
@@ -18,43 +20,47 @@ use Rattle.tables.specs.declared.WidestAnswer.{WidestAnswer}
 use Rattle.tables.specs.declared.WidestAnswer.the-variants as made
 
 -- the four numbers of a call
-abbrev pub four : ℕ → ℕ → ℕ → ℕ → Refusal
+abbrev pub four : ℕ → ℕ → ℕ → ℕ → Returned
 four code file p q = record { code = code; file = file; p = p; q = q }
 
--- success, with the two numbers that the call gives
-abbrev pub success : ℕ → ℕ → Refusal
-success p q = four 0 0 p q
+-- success, with the two numbers that the call gives: a code that no refusal has, and no file
+abbrev pub success : ℕ → ℕ → Returned
+success p q = four 0 no-file p q
+
+-- a refusal's own numbers
+abbrev pub refused : Refusal → Returned
+refused f = four (f .code) (f .file) (f .p) (f .q)
 
 -- 1 for true and 0 for false
 abbrev pub as-number : Bool → ℕ
 as-number b = cond b 1 0
 
 -- reading: the number of states
-unfoldable pub of-read : ReadAnswer → ℕ → Refusal
-of-read read.Accepted states = success states 0
-of-read (read.Refused f) states = f
+unfoldable pub of-read : Verdict → ℕ → Returned
+of-read verdict.Accepted states = success states 0
+of-read (verdict.Refused f) states = refused f
 
 -- the record of a text that was read, written as far as the slice goes; a refusal leaves the slice as it came
-unfoldable pub recorded : ReadAnswer → Text → ℕ → List ℕ → List ℕ
-recorded read.Accepted t states before = put-at before 0 (numbers t states)
-recorded (read.Refused f) t states before = before
+unfoldable pub recorded : Verdict → Text → ℕ → List ℕ → List ℕ
+recorded verdict.Accepted t states before = put-at before 0 (numbers t states)
+recorded (verdict.Refused f) t states before = before
 
 -- the safe states: their count, and whether the start is one
-unfoldable pub of-safe : SafeAnswer → Refusal
+unfoldable pub of-safe : SafeAnswer → Returned
 of-safe (safe.Found count start) = success count (as-number start)
-of-safe (safe.Refused f) = f
+of-safe (safe.Refused f) = refused f
 
 -- the search: n
-unfoldable pub of-search : SearchAnswer → Refusal
+unfoldable pub of-search : SearchAnswer → Returned
 of-search (search.Found n) = success n 0
-of-search (search.Refused f) = f
+of-search (search.Refused f) = refused f
 
 -- the check: the number of pairs set
-unfoldable pub of-check : CheckAnswer → Refusal
+unfoldable pub of-check : CheckAnswer → Returned
 of-check (check.Accepted count) = success count 0
-of-check (check.Refused f) = f
+of-check (check.Refused f) = refused f
 
 -- the widest table: the number of its pairs, and whether the start pair is one
-unfoldable pub of-widest : WidestAnswer → Refusal
+unfoldable pub of-widest : WidestAnswer → Returned
 of-widest (made.Made count start) = success count (as-number start)
-of-widest (made.Refused f) = f
+of-widest (made.Refused f) = refused f

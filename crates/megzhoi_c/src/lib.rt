@@ -1,8 +1,9 @@
 // Document 01's five operations for callers in C and Rust. A slice is a pointer and a length in entries. The answer is
 // four numbers: the code, 0 for success, is returned, and the file mark, p and q are written.
-use clocks_read::ReadAnswer;
 use reader_record::Text;
+use refusals::NO_FILE;
 use refusals::Refusal;
+use refusals::Verdict;
 use safe_states::SafeAnswer;
 use search::SearchAnswer;
 use tables::CheckAnswer;
@@ -11,9 +12,9 @@ ghost use mathlib.Core.Path.{_≡_};
 ghost use lib.ListN.{length};
 ghost use Rattle.clocks_read.specs.Reading.{read-outcome};
 ghost use Rattle.safe_states.specs.Outcome.{safe-outcome};
-ghost use Rattle.search.specs.Outcome.{search-outcome, Scratch};
-ghost use Rattle.tables.specs.Outcome.{check-outcome, widest-outcome};
-ghost use Rattle.megzhoi_c.specs.Returned.{four, success, as-number, recorded};
+ghost use Rattle.search.specs.Outcome.{Scratch};
+ghost use Rattle.two_operations.specs.Outcome.{search-outcome, check-outcome, widest-outcome};
+ghost use Rattle.megzhoi_c.specs.Returned.{four, success, refused, as-number, recorded};
 ghost use Rattle.megzhoi_c.specs.Returned.{of-read, of-safe, of-search, of-check, of-widest};
 
 // 1 for true and 0 for false.
@@ -26,28 +27,51 @@ fn number_of_bool(b: bool) -> usize
     0
 }
 
-// Success, with the two numbers that the call gives.
-fn succeeded(p: usize, q: usize) -> Refusal
+// What a call returns: a refusal's code, file mark, p and q, or success, which is no refusal.
+pub struct Returned {
+    pub code: usize,
+    pub file: usize,
+    pub p: usize,
+    pub q: usize,
+}
+
+// The code of success, which no refusal has.
+const SUCCESS: usize = 0;
+
+// Success, with the two numbers that the call gives; it concerns no file.
+fn succeeded(p: usize, q: usize) -> Returned
     ensures { λ r. ⌜ r ≡ success p q ⌝ }
 {
-    Refusal {
-        code: 0,
-        file: 0,
+    Returned {
+        code: SUCCESS,
+        file: NO_FILE,
         p,
         q,
     }
 }
 
-fn read_returned(a: ReadAnswer, states: usize) -> Refusal
-    ensures { λ r. ⌜ r ≡ of-read a states ⌝ }
+// A refusal's own numbers.
+fn refused(f: Refusal) -> Returned
+    ensures { λ r. ⌜ r ≡ refused f ⌝ }
 {
-    match a {
-        ReadAnswer::Accepted => succeeded(states, 0),
-        ReadAnswer::Refused(f) => f,
+    Returned {
+        code: f.code,
+        file: f.file,
+        p: f.p,
+        q: f.q,
     }
 }
 
-fn safe_returned(a: SafeAnswer) -> Refusal
+fn read_returned(a: Verdict, states: usize) -> Returned
+    ensures { λ r. ⌜ r ≡ of-read a states ⌝ }
+{
+    match a {
+        Verdict::Accepted => succeeded(states, 0),
+        Verdict::Refused(f) => refused(f),
+    }
+}
+
+fn safe_returned(a: SafeAnswer) -> Returned
     ensures { λ r. ⌜ r ≡ of-safe a ⌝ }
 {
     match a {
@@ -55,29 +79,29 @@ fn safe_returned(a: SafeAnswer) -> Refusal
             let q = number_of_bool(start);
             succeeded(count, q)
         }
-        SafeAnswer::Refused(f) => f,
+        SafeAnswer::Refused(f) => refused(f),
     }
 }
 
-fn search_returned(a: SearchAnswer) -> Refusal
+fn search_returned(a: SearchAnswer) -> Returned
     ensures { λ r. ⌜ r ≡ of-search a ⌝ }
 {
     match a {
         SearchAnswer::Found(n) => succeeded(n, 0),
-        SearchAnswer::Refused(f) => f,
+        SearchAnswer::Refused(f) => refused(f),
     }
 }
 
-fn check_returned(a: CheckAnswer) -> Refusal
+fn check_returned(a: CheckAnswer) -> Returned
     ensures { λ r. ⌜ r ≡ of-check a ⌝ }
 {
     match a {
         CheckAnswer::Accepted(count) => succeeded(count, 0),
-        CheckAnswer::Refused(f) => f,
+        CheckAnswer::Refused(f) => refused(f),
     }
 }
 
-fn widest_returned(a: WidestAnswer) -> Refusal
+fn widest_returned(a: WidestAnswer) -> Returned
     ensures { λ r. ⌜ r ≡ of-widest a ⌝ }
 {
     match a {
@@ -85,12 +109,12 @@ fn widest_returned(a: WidestAnswer) -> Refusal
             let q = number_of_bool(start);
             succeeded(count, q)
         }
-        WidestAnswer::Refused(f) => f,
+        WidestAnswer::Refused(f) => refused(f),
     }
 }
 
 // Hands out the four numbers of an answer.
-fn hand_out(f: Refusal, file: &mut usize, p: &mut usize, q: &mut usize) -> usize
+fn hand_out(f: Returned, file: &mut usize, p: &mut usize, q: &mut usize) -> usize
     ensures { λ r. ⌜ four r (now (file .exit)) (now (p .exit)) (now (q .exit)) ≡ f ⌝ }
 {
     *file = f.file;
@@ -100,12 +124,12 @@ fn hand_out(f: Refusal, file: &mut usize, p: &mut usize, q: &mut usize) -> usize
 }
 
 // Writes the record of a text that was read.
-fn write_record(a: ReadAnswer, t: Text, states: usize, out: &mut [usize])
+fn write_record(a: Verdict, t: Text, states: usize, out: &mut [usize])
     ensures { λ _. ⌜ now (out .exit) ≡ recorded a t states (now (out .entry)) ⌝ }
 {
     match a {
-        ReadAnswer::Accepted => reader_numbers::write(out, t, states),
-        ReadAnswer::Refused(_) => (),
+        Verdict::Accepted => reader_numbers::write(out, t, states),
+        Verdict::Refused(_) => (),
     }
 }
 
@@ -123,7 +147,7 @@ pub extern "C" fn megzhoi_read(
     ensures { λ _. ⌜ now (out .exit) ≡ recorded (read-outcome (now (text .entry)) .answer)
         (read-outcome (now (text .entry)) .text) (read-outcome (now (text .entry)) .states) (now (out .entry)) ⌝ }
 {
-    let reading = clocks_read::read(text);
+    let reading = operations::read(text);
     let answer = reading.answer;
     let t = reading.text;
     write_record(answer, t, reading.states, out);
@@ -144,7 +168,7 @@ pub extern "C" fn megzhoi_safe_states(
         of-safe (safe-outcome (now (text .entry)) (now (keep .entry)) .answer) ⌝ }
     ensures { λ _. ⌜ now (keep .exit) ≡ safe-outcome (now (text .entry)) (now (keep .entry)) .keep ⌝ }
 {
-    let answer = safe_states::safe_states(text, keep);
+    let answer = operations::safe_states(text, keep);
     let f = safe_returned(answer);
     hand_out(f, file, p, q)
 }
@@ -176,7 +200,7 @@ pub extern "C" fn megzhoi_search(
         (length (now (line .entry))) (now (run .entry)) .answer)
         (now (back .entry)) (now (back .exit)) (now (line .entry)) (now (line .exit)) ⌝ }
 {
-    let answer = search::search(left, right, keep, back, line, run);
+    let answer = operations::search(left, right, keep, back, line, run);
     let f = search_returned(answer);
     hand_out(f, file, p, q)
 }
@@ -197,7 +221,7 @@ pub extern "C" fn megzhoi_check(
     ensures { λ _. ⌜ now (keep .exit) ≡
         check-outcome (now (left .entry)) (now (right .entry)) (now (keep .entry)) (now (table .entry)) .keep ⌝ }
 {
-    let answer = tables::check(left, right, keep, table);
+    let answer = operations::check(left, right, keep, table);
     let f = check_returned(answer);
     hand_out(f, file, p, q)
 }
@@ -220,7 +244,7 @@ pub extern "C" fn megzhoi_widest(
     ensures { λ _. ⌜ now (table .exit) ≡
         widest-outcome (now (left .entry)) (now (right .entry)) (now (keep .entry)) (now (table .entry)) .table ⌝ }
 {
-    let answer = tables::widest(left, right, keep, table);
+    let answer = operations::widest(left, right, keep, table);
     let f = widest_returned(answer);
     hand_out(f, file, p, q)
 }

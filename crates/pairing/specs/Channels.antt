@@ -5,17 +5,22 @@ use mathlib.Core.List.{List}
 use Prim.Native.Nat.{ℕ, zero, suc, _+_, _-_, _≤_, _<_}
 use lib.Dec.{eqb, leb, ltb}
 use lib.ListN.{take, drop}
-use Rattle.refusals.specs.Refusals.{unmatched-channel}
+use Rattle.refusals.specs.Refusals.{left-file, right-file, unmatched-channel}
 use Rattle.reader_tokens.specs.Scan.{same}
-use Rattle.reader_record.specs.Limits.{channel-limit}
 use Rattle.reader_record.specs.declared.Name.{Name}
 use Rattle.reader_record.specs.declared.Text.{Text}
-use Rattle.reader_formed.specs.Promise.{channel-name}
-use Rattle.clocks_bits.specs.Bits.{tab-from}
+use Rattle.reader_formed.specs.Promise.{channel-name, Names-within, Names-differ}
+use Rattle.bitmaps.specs.Bits.{tab-from}
 use Rattle.clocks.specs.States.{input}
 use Rattle.pairing.specs.declared.Matched.{Matched}
 use Rattle.pairing.specs.declared.Matched.the-variants.{Equal, Unmatched}
 use Rattle.pairing.specs.declared.Pairing.{Pairing}
+use Rattle.limits.specs.Limits.{channel-limit, step-limit}
+
+-- what reading promises of the names of a text
+pub record Well-named (s : List ℕ) (t : Text) : Type 0 where
+  pub within : Names-within s t
+  pub differ : Names-differ s t
 
 -- the numbers of the channels of a text, from 1
 pub record Channel (t : Text) (c : ℕ) : Type 0 where
@@ -74,12 +79,6 @@ unfoldable pub first-unmatched : List ℕ → Text → List ℕ → Text → ℕ
 first-unmatched s l u r = lowest (λ c. not (matched s l u r c)) (l .«channel_count»)
 
 -- code 12: the left file first, then the right
-abbrev pub left-file : ℕ
-left-file = 1
-
-abbrev pub right-file : ℕ
-right-file = 2
-
 unfoldable pub verdict : ℕ → ℕ → Matched
 verdict c d =
     cond (eqb c 0)
@@ -94,9 +93,5 @@ unmatched s l u r = verdict (first-unmatched s l u r) (first-unmatched u r s l)
 unfoldable pub right-step : List ℕ → Text → List ℕ → Text → ℕ → ℕ
 right-step s l u r c = cond (ltb 0 c && leb c (l .«channel_count»)) (partner s (name-of l c) u r) 0
 
--- the tick and the channels
-abbrev pub most-steps : ℕ
-most-steps = channel-limit + 1
-
 unfoldable pub pairing : List ℕ → Text → List ℕ → Text → Pairing
-pairing s l u r = record { answer = unmatched s l u r; map = tab-from (right-step s l u r) 0 most-steps }
+pairing s l u r = record { answer = unmatched s l u r; map = tab-from (right-step s l u r) 0 step-limit }

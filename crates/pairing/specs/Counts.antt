@@ -10,8 +10,8 @@ use borrow.Author.Tests.{eq-eqb, ne-eqb}
 use Rattle.reader_record.specs.declared.Text.{Text}
 use Rattle.reader_formed.specs.Cases.{when-equal}
 use Rattle.pairing.specs.declared.Matched.the-variants.{Equal}
-use Rattle.pairing.specs.Channels.{Channel, Equal-channels, unmatched, right-step}
-use Rattle.pairing.specs.Equal.{Well-named, equal-when-nothing, step-there, step-injective}
+use Rattle.pairing.specs.Channels.{Channel, Equal-channels, unmatched, right-step, Well-named}
+use Rattle.pairing.specs.Equal.{equal-when-nothing, step-there, step-injective}
 
 -- f gives the numbers below n different numbers below m
 record Spread (n m : ℕ) (f : ℕ → ℕ) : Type 0 where

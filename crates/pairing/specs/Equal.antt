@@ -7,23 +7,18 @@ use native.Mathlib.Omega.{arith}
 use lib.Dec.{eqb}
 use borrow.Author.Tests.{eqb-true, not-true, not-false}
 use Rattle.reader_record.specs.declared.Text.{Text}
-use Rattle.reader.specs.declared.Answer.the-variants.{Accepted}
+use Rattle.refusals.specs.declared.Verdict.the-variants.{Accepted}
 use Rattle.reader.specs.Reading.{read-text}
-use Rattle.reader_formed.specs.Promise.{Within, Names-within, Names-differ, Unlike}
+use Rattle.reader_formed.specs.Promise.{Within, Unlike}
 use Rattle.reader_formed.specs.Formed.{read-names, read-differ}
 use Rattle.reader_formed.specs.Cases.{split, when-equal, never}
 use Rattle.clocks.specs.States.{input}
 use Rattle.pairing.specs.declared.Matched.{Matched}
 use Rattle.pairing.specs.declared.Matched.the-variants.{Equal, Unmatched}
-use Rattle.pairing.specs.Channels.{Channel, name-of, spelling, Shared, Equal-channels, alike, partner, agree, matched, first-unmatched, verdict, unmatched, right-step}
+use Rattle.pairing.specs.Channels.{Channel, name-of, spelling, Shared, Equal-channels, alike, partner, agree, matched, first-unmatched, verdict, unmatched, right-step, Well-named}
 use Rattle.pairing.specs.Lowest.{lowest-none, lowest-found, lowest-some}
 use Rattle.pairing.specs.Laws.{matched-none, matched-some, step-none, step-in}
 use Rattle.pairing.specs.Spelled.{alike-spelled, spelled-alike}
-
--- what reading promises of the names of a text
-pub record Well-named (s : List ℕ) (t : Text) : Type 0 where
-  pub within : Names-within s t
-  pub differ : Names-differ s t
 
 pub read-named : (s : List ℕ) → read-text s .answer ≡ Accepted → Well-named s (read-text s .text)
 read-named s e = record { within = read-names s e; differ = read-differ s e }

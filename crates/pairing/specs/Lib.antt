@@ -6,4 +6,3 @@ pub mod Laws
 pub mod Spelled
 pub mod Equal
 pub mod Counts
-pub mod Map

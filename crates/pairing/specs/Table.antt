@@ -2,23 +2,14 @@
 use mathlib.Core.Path.{_≡_}
 use Prim.Native.Nat.{ℕ, _+_, _*_, _/_, _%_, _≤_, _<_}
 use mathlib.Core.List.{List}
-use lib.Arith.{digits-div, digits-mod}
 use lib.ListN.{length, getD}
-use Rattle.reader_record.specs.Limits.{state-limit}
-use Rattle.clocks_bits.specs.Bits.{written}
-use Rattle.pairing.specs.Channels.{most-steps}
+use Rattle.bitmaps.specs.Bits.{written}
+use Rattle.limits.specs.Limits.{state-limit, step-limit, move-limit}
 
 -- entry p of the table with `left` steps a row, from a table with `right` steps a row; map has the right's number of
 -- each step
 unfoldable pub renumbered : List ℕ → List ℕ → ℕ → ℕ → ℕ → ℕ
 renumbered table map right left p = getD table (p / left * right + getD map (p % left) 0) 0
-
--- row t and step c of the renumbered table
-pub renumbered-at :
-    (table map : List ℕ) (right left t c : ℕ) → c < left
-    → renumbered table map right left (t * left + c) ≡ getD table (t * right + getD map c 0) 0
-unfolding renumbered
-renumbered-at table map right left t c h = rw (digits-div t h, digits-mod t h)
 
 -- entry c of the row that starts at `from`
 abbrev pub row-entry : List ℕ → ℕ → ℕ → ℕ
@@ -30,16 +21,16 @@ Steps-there map width = (c : ℕ) → c < width → getD map c 0 < width
 
 -- a table of n rows, long enough, with steps that are there
 pub record Renumbering (entries : ℕ) (map : List ℕ) (n width : ℕ) : Type 0 where
-  pub few : width ≤ most-steps
+  pub few : width ≤ step-limit
   pub rows : n ≤ state-limit
   pub long : n * width ≤ entries
   pub steps : Steps-there map width
 
 -- a row of the table
 pub record Row-there (entries from width : ℕ) : Type 0 where
-  pub few : width ≤ most-steps
+  pub few : width ≤ step-limit
   pub inside : from + width ≤ entries
-  pub low : from + width ≤ 131072
+  pub low : from + width ≤ move-limit
 
 -- f gives the entries of the row that starts at `from`, which stood in the table by the other text's steps
 abbrev pub Row-of : List ℕ → List ℕ → ℕ → ℕ → (ℕ → ℕ) → Type 0

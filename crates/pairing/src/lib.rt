@@ -4,16 +4,17 @@ ghost use mathlib.Core.Bool.{false};
 ghost use Prim.Native.Nat.{_+_, _-_, _*_, _≤_, _<_};
 ghost use lib.ListN.{length, replicate};
 ghost use Rattle.reader_record.specs.Formed.{Well-formed};
-ghost use Rattle.reader_record.specs.Limits.{channel-limit};
-ghost use Rattle.clocks_bits.specs.Bits.{tab-from, written};
-ghost use Rattle.pairing.specs.Channels.{partner, agree, matched, first-unmatched, verdict, right-step, pairing, most-steps};
+ghost use Rattle.bitmaps.specs.Bits.{tab-from, written};
+ghost use Rattle.pairing.specs.Channels.{partner, agree, matched, first-unmatched, verdict, right-step, pairing};
 ghost use Rattle.pairing.specs.Only.{only, channels-of};
 ghost use Rattle.pairing.specs.Table.{renumbered, row-entry, Renumbering, Row-there, Steps-there, Row-written};
-use reader_record::CHANNEL_LIMIT;
+use limits::CHANNEL_LIMIT;
+use limits::STEP_LIMIT;
 use reader_record::Channel;
 use reader_record::Name;
 use reader_record::Text;
 use refusals::Refusal;
+ghost use Rattle.limits.specs.Limits.{channel-limit, step-limit};
 
 // Whether the channels are equal, or code 12.
 pub enum Matched {
@@ -21,10 +22,11 @@ pub enum Matched {
     Unmatched(Refusal),
 }
 
-// `map` has the right's number of each step of the left: 0 for the tick, else the channel of the same name, 0 for none.
+// `map` has the right's number of each step of the left: the tick is the tick, a channel the one of the same name, and 0
+// stands where there is none.
 pub struct Pairing {
     pub answer: Matched,
-    pub map: [usize; 17],
+    pub map: [usize; STEP_LIMIT],
 }
 
 // The channels of a text: the first `count` of the list. What is compared are these alone, since a text is long.
@@ -111,22 +113,10 @@ fn verdict_of(c: usize, d: usize) -> Matched
     ensures { λ r. ⌜ r ≡ verdict c d ⌝ }
 {
     if c != 0 {
-        let f = Refusal {
-            code: 12,
-            file: 1,
-            p: c,
-            q: 0,
-        };
-        return Matched::Unmatched(f);
+        return Matched::Unmatched(Refusal::unmatched_channel(refusals::LEFT_FILE, c));
     }
     if d != 0 {
-        let f = Refusal {
-            code: 12,
-            file: 2,
-            p: d,
-            q: 0,
-        };
-        return Matched::Unmatched(f);
+        return Matched::Unmatched(Refusal::unmatched_channel(refusals::RIGHT_FILE, d));
     }
     Matched::Equal
 }
@@ -136,8 +126,9 @@ fn step_of(s: &[u8], l: Channels, u: &[u8], r: Channels, c: usize) -> usize
     requires { ⌜ (l .count ≤ channel-limit) × (r .count ≤ channel-limit) ⌝ }
     ensures { λ d. ⌜ d ≡ right-step (now (s .entry)) (only l) (now (u .entry)) (only r) c ⌝ }
 {
-    if c == 0 {
-        return 0;
+    let tick = steps::TICK;
+    if c == tick.number {
+        return tick.number;
     }
     if l.count < c {
         return 0;
@@ -148,13 +139,13 @@ fn step_of(s: &[u8], l: Channels, u: &[u8], r: Channels, c: usize) -> usize
 }
 
 // The right's numbers of the left's steps, from the tick on.
-fn steps_of(s: &[u8], l: Channels, u: &[u8], r: Channels) -> [usize; 17]
+fn steps_of(s: &[u8], l: Channels, u: &[u8], r: Channels) -> [usize; STEP_LIMIT]
     requires { ⌜ (l .count ≤ channel-limit) × (r .count ≤ channel-limit) ⌝ }
-    ensures { λ m. ⌜ m ≡ tab-from (right-step (now (s .entry)) (only l) (now (u .entry)) (only r)) 0 most-steps ⌝ }
+    ensures { λ m. ⌜ m ≡ tab-from (right-step (now (s .entry)) (only l) (now (u .entry)) (only r)) 0 step-limit ⌝ }
 {
-    let mut map = [0; 17];
+    let mut map = [0; STEP_LIMIT];
     let mut c: usize = 0;
-    while c < 17 {
+    while c < STEP_LIMIT {
         map[c] = step_of(s, l, u, r, c);
         c += 1;
     }
@@ -176,11 +167,11 @@ pub fn pair_channels(left: &[u8], l: Text, right: &[u8], r: Text) -> Pairing
 }
 
 // The row that starts at `from`, of so many steps, out of the table.
-fn row_at(moves: &[u16], from: usize, width: usize) -> [u16; 17]
+fn row_at(moves: &[u16], from: usize, width: usize) -> [u16; STEP_LIMIT]
     requires { ⌜ Row-there (length (now moves)) from width ⌝ }
-    ensures { λ r. ⌜ r ≡ written (row-entry (now (moves .entry)) from) width (replicate most-steps 0) ⌝ }
+    ensures { λ r. ⌜ r ≡ written (row-entry (now (moves .entry)) from) width (replicate step-limit 0) ⌝ }
 {
-    let mut row = [0; 17];
+    let mut row = [0; STEP_LIMIT];
     let mut c: usize = 0;
     while c < width {
         row[c] = moves[from + c];
@@ -190,7 +181,7 @@ fn row_at(moves: &[u16], from: usize, width: usize) -> [u16; 17]
 }
 
 // The row that starts at `from`, by the other text's steps.
-fn renumber_row(moves: &mut [u16], map: [usize; 17], from: usize, width: usize)
+fn renumber_row(moves: &mut [u16], map: [usize; STEP_LIMIT], from: usize, width: usize)
     requires { ⌜ Row-there (length (now moves)) from width × Steps-there map width ⌝ }
     ensures { λ _. ⌜ Row-written (now (moves .entry)) map from width (now (moves .entry)) (now (moves .exit)) ⌝ }
 {
@@ -204,7 +195,7 @@ fn renumber_row(moves: &mut [u16], map: [usize; 17], from: usize, width: usize)
 }
 
 // The right's move table, of n rows, by the left's steps; both have equally many.
-pub fn renumber(moves: &mut [u16], map: [usize; 17], n: usize, width: usize)
+pub fn renumber(moves: &mut [u16], map: [usize; STEP_LIMIT], n: usize, width: usize)
     requires { ⌜ Renumbering (length (now moves)) map n width ⌝ }
     ensures { λ _. ⌜ now (moves .exit) ≡ written (renumbered (now (moves .entry)) map width width) (n * width)
         (now (moves .entry)) ⌝ }

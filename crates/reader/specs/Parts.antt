@@ -8,8 +8,8 @@ use Rattle.reader_record.specs.declared.Text.{Text}
 use Rattle.reader_parts.specs.declared.Status.{Status}
 use Rattle.reader_parts.specs.declared.Use.{Use}
 use Rattle.reader_parts.specs.Status.{ahead}
-use Rattle.reader_lists.specs.declared.Item.{Item}
-use Rattle.reader_lists.specs.declared.State.{State}
+use Rattle.reader_lists.specs.Lists.{Item}
+use Rattle.reader_lists.specs.State.{State}
 use Rattle.reader_lists.specs.State.{with-init}
 use Rattle.reader_lists.specs.Lists.{stopped, items}
 use Rattle.reader_lists.specs.Turns.{state-of}

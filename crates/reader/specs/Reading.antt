@@ -5,7 +5,6 @@ use Prim.Native.Nat.{ℕ}
 use lib.Dec.{ltb}
 use lib.ListN.{length, replicate}
 use Rattle.reader_tokens.specs.Kinds as kinds
-use Rattle.reader_record.specs.Limits.{location-limit, largest-text}
 use Rattle.reader_record.specs.Record.{no-name}
 use Rattle.reader_record.specs.declared.Text.{Text}
 use Rattle.reader_parts.specs.declared.Fault.{Fault}
@@ -15,14 +14,15 @@ use Rattle.reader_parts.specs.declared.Status.the-variants as status
 use Rattle.reader_parts.specs.Status.{ahead}
 use Rattle.reader_parts.specs.Names.{declare, use-name}
 use Rattle.reader_parts.specs.Slots.{process-slot, process-limit, first-location, name-slots}
-use Rattle.reader_lists.specs.declared.Item.{Item}
-use Rattle.reader_lists.specs.declared.Item.the-variants.{Channel, Clock, Location, Edge}
-use Rattle.reader_lists.specs.declared.State.{State}
-use Rattle.reader_lists.specs.State.{no-text, next, with-init}
+use Rattle.reader_lists.specs.Lists.{Item}
+use Rattle.reader_lists.specs.Lists.Item.{Channel, Clock, Location, Edge}
+use Rattle.reader_lists.specs.State.{State}
+use Rattle.reader_lists.specs.State.{no-text, next-token, with-init}
 use Rattle.reader_lists.specs.Lists.{stopped, items}
 use Rattle.reader.specs.Faults.{refusal-of}
-use Rattle.reader.specs.declared.Answer.the-variants.{Accepted, Refused}
+use Rattle.refusals.specs.declared.Verdict.the-variants.{Accepted, Refused}
 use Rattle.reader.specs.declared.Parsed.{Parsed}
+use Rattle.limits.specs.Limits.{location-limit, largest-text}
 
 -- nothing is read and nothing is declared
 unfoldable pub start : State
@@ -31,22 +31,22 @@ start = record { status = status.At 0; names = replicate name-slots no-name; tex
 -- an optional list: the word that opens it, then its items and `;`
 unfoldable pub list-part : ℕ → Item → List ℕ → State → State
 list-part word k s r =
-    let given = items k s (next s r word) in
+    let given = items k s (next-token s r word) in
     cond (ahead s (r .status) word) given r
 
 -- "optional `broadcast chan` names `;`"
 unfoldable pub channel-part : List ℕ → State → State
 channel-part s r =
-    let given = items Channel s (next s (next s r kinds.broadcast) kinds.chan) in
+    let given = items Channel s (next-token s (next-token s r kinds.broadcast) kinds.chan) in
     cond (ahead s (r .status) kinds.broadcast) given r
 
 -- "`process` name `( ) {`"
 unfoldable pub process-part : List ℕ → State → State
 process-part s r =
-    let a = next s r kinds.process in
+    let a = next-token s r kinds.process in
     let d = declare s (a .status) (a .names) process-slot 0 process-limit in
     let b : State = record { status = d .status; names = d .names; text = a .text } in
-    next s (next s (next s b kinds.left-paren) kinds.right-paren) kinds.opens
+    next-token s (next-token s (next-token s b kinds.left-paren) kinds.right-paren) kinds.opens
 
 -- "optional `clock` names `;`"
 abbrev pub clock-part : List ℕ → State → State
@@ -54,15 +54,15 @@ clock-part = list-part kinds.clock Clock
 
 -- "`state` locations `;`"
 unfoldable pub location-part : List ℕ → State → State
-location-part s r = items Location s (next s r kinds.state)
+location-part s r = items Location s (next-token s r kinds.state)
 
 -- "`init` name `;`": the name of a location
 unfoldable pub init-part : List ℕ → State → State
 init-part s r =
-    let a = next s r kinds.init in
+    let a = next-token s r kinds.init in
     let u = use-name s (a .status) (a .names) first-location location-limit false in
     let b : State = record { status = u .status; names = a .names; text = with-init (a .text) (u .number) } in
-    next s b kinds.semicolon
+    next-token s b kinds.semicolon
 
 -- "optional `trans` edges `;`"
 abbrev pub edge-part : List ℕ → State → State
@@ -71,9 +71,9 @@ edge-part = list-part kinds.trans Edge
 -- "then `} system` name `;`": the process's name; after it the text ends
 unfoldable pub end-part : List ℕ → State → State
 end-part s r =
-    let a = next s (next s r kinds.closes) kinds.system in
+    let a = next-token s (next-token s r kinds.closes) kinds.system in
     let u = use-name s (a .status) (a .names) process-slot process-limit false in
-    next s (next s (stopped a (u .status)) kinds.semicolon) kinds.end
+    next-token s (next-token s (stopped a (u .status)) kinds.semicolon) kinds.end
 
 -- the parts in their order
 unfoldable pub read-whole : List ℕ → State

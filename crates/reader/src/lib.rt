@@ -3,13 +3,15 @@ ghost use mathlib.Core.Path.{_≡_};
 ghost use mathlib.Core.Bool.{false};
 ghost use Prim.Native.Nat.{_≤_, _<_};
 ghost use lib.ListN.{length};
-ghost use Rattle.reader_record.specs.Limits.{largest-text};
 ghost use Rattle.reader_lists.specs.Turns.{item, state-of};
 ghost use Rattle.reader_lists.specs.Heads.{no-edges, before-edges, with-rest, Reads-head, Reads-edges};
 ghost use Rattle.reader.specs.Reading.{start, channel-part, process-part, clock-part, location-part, init-part};
 ghost use Rattle.reader.specs.Reading.{edge-part, end-part, read-whole, refused, answer, read-text};
 ghost use Rattle.reader.specs.Parts.{list-past, started, read-head, Reads-any};
 ghost use Rattle.reader.specs.Faults.{refusal-of};
+use limits::CHANNEL_LIMIT;
+use limits::LARGEST_TEXT;
+use limits::LOCATION_LIMIT;
 use reader_lists::EdgesRead;
 use reader_lists::HeadRead;
 use reader_lists::Named;
@@ -21,23 +23,16 @@ use reader_parts::PROCESS_LIMIT;
 use reader_parts::PROCESS_SLOT;
 use reader_parts::Status;
 use reader_parts::Use;
-use reader_record::CHANNEL_LIMIT;
 use reader_record::Channel;
-use reader_record::LARGEST_TEXT;
-use reader_record::LOCATION_LIMIT;
 use reader_record::Name;
 use reader_record::Text;
 use refusals::Refusal;
-
-// Whether the text is read, or how it is refused.
-pub enum Answer {
-    Accepted,
-    Refused(Refusal),
-}
+use refusals::Verdict;
+ghost use Rattle.limits.specs.Limits.{largest-text};
 
 // The answer, and the record of the text where it is accepted.
 pub struct Parsed {
-    pub answer: Answer,
+    pub answer: Verdict,
     pub text: Text,
 }
 
@@ -188,31 +183,19 @@ fn end_part(s: &[u8], st: Status, names: [Name; NAME_SLOTS]) -> Status
     reader_parts::take(s, d, reader_tokens::END)
 }
 
-// The refusal with a code of 2 to 8 at a byte place of the only text.
-fn at_place(code: usize, place: usize) -> Refusal
-    ensures { λ r. ⌜ r ≡ record { code = code; file = 1; p = place; q = 0 } ⌝ }
-{
-    Refusal {
-        code,
-        file: 1,
-        p: place,
-        q: 0,
-    }
-}
-
-// Document 01's number and values for each reason to refuse a text.
+// Document 01's refusal for each reason to refuse a text.
 fn refusal_of(f: Fault) -> Refusal
     ensures { λ r. ⌜ r ≡ refusal-of f ⌝ }
 {
     match f {
-        Fault::TooLong => at_place(1, 0),
-        Fault::Misfit(p) => at_place(2, p),
-        Fault::NameTooLong(p) => at_place(3, p),
-        Fault::Declared(p) => at_place(4, p),
-        Fault::Unknown(p) => at_place(5, p),
-        Fault::TooLarge(p) => at_place(6, p),
-        Fault::TooMany(p) => at_place(7, p),
-        Fault::OtherMark(p) => at_place(8, p),
+        Fault::TooLong => Refusal::text_too_long(),
+        Fault::Misfit(p) => Refusal::misfit(p),
+        Fault::NameTooLong(p) => Refusal::name_too_long(p),
+        Fault::Declared(p) => Refusal::declared_before(p),
+        Fault::Unknown(p) => Refusal::unknown_name(p),
+        Fault::TooLarge(p) => Refusal::constant_too_large(p),
+        Fault::TooManyItems(p) => Refusal::too_many_items(p),
+        Fault::OtherMark(p) => Refusal::other_mark(p),
     }
 }
 
@@ -221,7 +204,7 @@ fn refused(f: Fault) -> Parsed
     ensures { λ r. ⌜ r ≡ refused f ⌝ }
 {
     let why = refusal_of(f);
-    let answer = Answer::Refused(why);
+    let answer = Verdict::Refused(why);
     let text = reader_lists::no_text();
     Parsed { answer, text }
 }
@@ -259,7 +242,7 @@ fn read_whole(s: &[u8]) -> Parsed
                 edges: edges,
                 edge_count: e.count,
             };
-            let answer = Answer::Accepted;
+            let answer = Verdict::Accepted;
             Parsed { answer, text }
         }
     }

@@ -1,48 +1,30 @@
--- One turn of `constraint-from`, and what a capped number says of the number.
-use mathlib.Core.Path.{_≡_, refl, sym}
+-- A constant that is read is small; one turn of `constraint-from`.
+use mathlib.Core.Path.{_≡_, sym}
 use mathlib.Core.Bool.{Bool, true, false}
 use mathlib.Core.List.{List}
 use Prim.Native.Nat.{ℕ, suc, _+_, _-_, _≤_, _<_}
 use native.Mathlib.Omega.{arith}
-use lib.Dec.{leb}
-use borrow.Author.Tests.{leb-false}
-use Rattle.reader_record.specs.Limits.{largest-constant}
 use Rattle.reader_tokens.specs.Kinds as kinds
-use Rattle.reader_tokens.specs.Scan.{capped}
 use Rattle.reader_record.specs.declared.Name.{Name}
 use Rattle.reader_record.specs.declared.Constraint.{Constraint}
 use Rattle.reader_parts.specs.declared.Status.{Status}
 use Rattle.reader_parts.specs.Status.{take, ahead}
+use Rattle.reader_constraints.specs.declared.Amount.{Amount}
 use Rattle.reader_constraints.specs.declared.ComparisonRead.{ComparisonRead}
-use Rattle.reader_constraints.specs.Constraints.{comparison, with-comparison, constraint-from}
+use Rattle.reader_constraints.specs.Constraints.{constant, comparison-next, with-comparison, constraint-from}
+use Rattle.reader_constraints.specs.Facts.{constant-small}
+use Rattle.limits.specs.Limits.{largest-constant}
 
--- a number that is capped at most at 1,000 is the number; one above is above
-pub uncapped : (n : ℕ) → capped n ≤ largest-constant → capped n ≡ n
-unfolding capped
-uncapped n h = by (leb n largest-constant) refl
-  where
-    by : (t : Bool) → leb n largest-constant ≡ t → capped n ≡ n
-    by true e = rw e
-    by false e = absurd (never (rw e at h))
-      where
-        never : (suc largest-constant) ≤ largest-constant → ⊥
-        never z = omega arith
-
-pub above : (n : ℕ) → largest-constant < capped n → largest-constant < n
-unfolding capped
-above n h = by (leb n largest-constant) refl
-  where
-    by : (t : Bool) → leb n largest-constant ≡ t → largest-constant < n
-    by true e = rw e at h
-    by false e = leb-false n largest-constant e
+pub amount-small : (s : List ℕ) (st : Status) (a : Amount) → a ≡ constant s st → a .value ≤ largest-constant
+amount-small s st a e = rw e (constant-small s st)
 
 module _ (s : List ℕ) (names : List Name) (invariant : Bool) (closing : ℕ) (st : Status) (c : Constraint) where
-  pub turn-full : {x : ComparisonRead} → x ≡ comparison s st names invariant true
+  pub turn-full : {x : ComparisonRead} → x ≡ comparison-next s st names invariant true
       → constraint-from 0 s names invariant closing st c ≡ record { status = x .status; constraint = c }
   unfolding constraint-from
   turn-full e = rw (sym e)
 
-  module _ {x : ComparisonRead} (e : x ≡ comparison s st names invariant false) (room : ℕ) where
+  module _ {x : ComparisonRead} (e : x ≡ comparison-next s st names invariant false) (room : ℕ) where
     pub turn-last : ahead s (x .status) kinds.both ≡ false → constraint-from
         (suc room) s names invariant closing st c ≡ record {
           status = take s (x .status) closing;

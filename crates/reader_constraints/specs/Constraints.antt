@@ -5,10 +5,9 @@ use Prim.Native.Nat.{ℕ, zero, suc, _+_}
 use lib.Dec.{eqb, ltb}
 use lib.ListN.{drop, set, replicate}
 use Rattle.reader_tokens.specs.Kinds as kinds
-use Rattle.reader_tokens.specs.Scan.{value}
+use Rattle.reader_tokens.specs.Scan.{numeral-value}
 use Rattle.reader_tokens.specs.Tokens.{token-at}
 use Rattle.reader_tokens.specs.declared.Token.{Token}
-use Rattle.reader_record.specs.Limits.{clock-limit, comparison-limit, largest-constant}
 use Rattle.reader_record.specs.Record.{no-comparison}
 use Rattle.reader_record.specs.declared.Name.{Name}
 use Rattle.reader_record.specs.declared.Sign.the-variants.{AtMost, AtLeast, Equal}
@@ -25,6 +24,7 @@ use Rattle.reader_constraints.specs.declared.Amount.{Amount}
 use Rattle.reader_constraints.specs.declared.SignRead.{SignRead}
 use Rattle.reader_constraints.specs.declared.ComparisonRead.{ComparisonRead}
 use Rattle.reader_constraints.specs.declared.ConstraintRead.{ConstraintRead}
+use Rattle.limits.specs.Limits.{clock-limit, comparison-limit, largest-constant}
 
 abbrev pub no-amount : Fault → Amount
 no-amount f = record { status = Refused f; value = 0 }
@@ -32,7 +32,7 @@ no-amount f = record { status = Refused f; value = 0 }
 -- a token that has to be a numeral, "constant 1,000" at most; its value counts, however many digits it has
 unfoldable pub constant-of : List ℕ → Token → Amount
 constant-of s t =
-    let v = value 0 (drop (t .place) s) in
+    let v = numeral-value 0 (drop (t .place) s) in
     cond (eqb (t .kind) kinds.numeral)
     (cond (ltb largest-constant v)
     (no-amount (TooLarge (t .place)))
@@ -66,8 +66,8 @@ sign-next s (Refused f) invariant = no-sign f
 sign-next s (At p) invariant = sign-of invariant (token-at s p)
 
 -- "each is a clock, one of `<=` `>=` `==`, and a numeral"; `over`: it is one comparison too many
-unfoldable pub comparison : List ℕ → Status → List Name → Bool → Bool → ComparisonRead
-comparison s st names invariant over =
+unfoldable pub comparison-next : List ℕ → Status → List Name → Bool → Bool → ComparisonRead
+comparison-next s st names invariant over =
     let clock = use-name s st names first-clock clock-limit over in
     let sign = sign-next s (clock .status) invariant in
     let bound = constant s (sign .status) in
@@ -78,8 +78,8 @@ comparison s st names invariant over =
 
 -- of no comparison, and as long as the code's array (the `no-constraint` of reader_record stands past the end of a
 -- list, where an array inside is empty)
-unfoldable pub no-constraint : Constraint
-no-constraint = record { comparisons = replicate comparison-limit no-comparison; count = 0 }
+unfoldable pub blank-constraint : Constraint
+blank-constraint = record { comparisons = replicate comparison-limit no-comparison; count = 0 }
 
 -- one comparison more
 unfoldable pub with-comparison : Constraint → Comparison → Constraint
@@ -89,25 +89,27 @@ with-comparison c x = record { comparisons = set (c .comparisons) (c .count) x; 
 -- so many after c, and the first past them is refused
 unfoldable pub constraint-from : ℕ → List ℕ → List Name → Bool → ℕ → Status → Constraint → ConstraintRead
 constraint-from zero s names invariant closing st c =
-    record { status = comparison s st names invariant true .status; constraint = c }
+    record { status = comparison-next s st names invariant true .status; constraint = c }
 constraint-from (suc room) s names invariant closing st c =
-    let x = comparison s st names invariant false in
+    let x = comparison-next s st names invariant false in
     let d = with-comparison c (x .comparison) in
     let more = constraint-from room s names invariant closing (take s (x .status) kinds.both) d in
     cond (ahead s (x .status) kinds.both) more (record { status = take s (x .status) closing; constraint = d })
 
 -- "4 comparisons in a guard or invariant"
 unfoldable pub constraint : List ℕ → Status → List Name → Bool → ℕ → ConstraintRead
-constraint s st names invariant closing = constraint-from comparison-limit s names invariant closing st no-constraint
+constraint s st names invariant closing = constraint-from comparison-limit s names invariant closing st blank-constraint
+
+-- an optional constraint: the token that opens it, its comparisons and the token that closes it
+unfoldable pub optional : ℕ → Bool → ℕ → List ℕ → Status → List Name → ConstraintRead
+optional opening invariant closing s st names =
+    let given = constraint s (take s st opening) names invariant closing in
+    cond (ahead s st opening) given (record { status = st; constraint = blank-constraint })
 
 -- "optional `guard` comparisons `;`"
-unfoldable pub guard : List ℕ → Status → List Name → ConstraintRead
-guard s st names =
-    let given = constraint s (take s st kinds.guard) names false kinds.semicolon in
-    cond (ahead s st kinds.guard) given (record { status = st; constraint = no-constraint })
+abbrev pub guard : List ℕ → Status → List Name → ConstraintRead
+guard = optional kinds.guard false kinds.semicolon
 
 -- "optionally `{` invariant `}`"
-unfoldable pub invariant : List ℕ → Status → List Name → ConstraintRead
-invariant s st names =
-    let given = constraint s (take s st kinds.opens) names true kinds.closes in
-    cond (ahead s st kinds.opens) given (record { status = st; constraint = no-constraint })
+abbrev pub invariant : List ℕ → Status → List Name → ConstraintRead
+invariant = optional kinds.opens true kinds.closes

@@ -8,22 +8,22 @@ use lib.Dec.{eqb, ltb}
 use lib.ListN.{drop}
 use borrow.Author.Tests.{ltb-false}
 use Rattle.reader_tokens.specs.Kinds as kinds
-use Rattle.reader_tokens.specs.Scan.{value}
+use Rattle.reader_tokens.specs.Scan.{numeral-value}
 use Rattle.reader_tokens.specs.Tokens.{token-at}
 use Rattle.reader_tokens.specs.declared.Token.{Token}
-use Rattle.reader_record.specs.Limits.{largest-constant}
 use Rattle.reader_parts.specs.declared.Fault.the-variants.{Misfit, TooLarge}
 use Rattle.reader_parts.specs.declared.Status.{Status}
 use Rattle.reader_parts.specs.declared.Status.the-variants.{At, Refused}
 use Rattle.reader_constraints.specs.declared.Amount.{Amount}
 use Rattle.reader_constraints.specs.Constraints.{no-amount, constant-of, constant}
+use Rattle.limits.specs.Limits.{largest-constant}
 
 constant-of-small : (s : List ℕ) (t : Token) → constant-of s t .value ≤ largest-constant
 unfolding constant-of
 constant-of-small s t = go (eqb (t .kind) kinds.numeral) (ltb largest-constant v) refl
   where
     v : ℕ
-    v = value 0 (drop (t .place) s)
+    v = numeral-value 0 (drop (t .place) s)
 
     read : Amount
     read = record { status = At (t .end); value = v }
@@ -38,6 +38,3 @@ pub constant-small : (s : List ℕ) (st : Status) → constant s st .value ≤ l
 unfolding constant
 constant-small s (At p) = constant-of-small s (token-at s p)
 constant-small s (Refused f) = omega arith
-
-pub amount-small : (s : List ℕ) (st : Status) (a : Amount) → a ≡ constant s st → a .value ≤ largest-constant
-amount-small s st a e = rw e (constant-small s st)

@@ -1,21 +1,23 @@
-// Guards and invariants: comparisons joined by `&&`.
+// Reads a guard or an invariant of a contract text: comparisons joined by `&&`.
 ghost use mathlib.Core.Path.{_≡_};
 ghost use mathlib.Core.Bool.{true, false};
 ghost use Prim.Native.Nat.{_+_, _≤_, _<_};
 ghost use lib.ListN.{length};
-ghost use Rattle.reader_record.specs.Limits.{largest-text, comparison-limit};
-ghost use Rattle.reader_constraints.specs.Constraints.{no-amount, constant, no-sign, sign-next, comparison, no-constraint, with-comparison, constraint, guard, invariant};
+ghost use Rattle.reader_constraints.specs.Constraints.{no-amount, constant, no-sign, sign-next, comparison-next};
+ghost use Rattle.reader_constraints.specs.Constraints.{blank-constraint, with-comparison, constraint, optional};
+ghost use Rattle.reader_constraints.specs.Constraints.{guard, invariant};
+use limits::CLOCK_LIMIT;
+use limits::COMPARISON_LIMIT;
+use limits::LARGEST_CONSTANT;
 use reader_parts::FIRST_CLOCK;
 use reader_parts::Fault;
 use reader_parts::NAME_SLOTS;
 use reader_parts::Status;
-use reader_record::CLOCK_LIMIT;
-use reader_record::COMPARISON_LIMIT;
 use reader_record::Comparison;
 use reader_record::Constraint;
-use reader_record::LARGEST_CONSTANT;
 use reader_record::Name;
 use reader_record::Sign;
+ghost use Rattle.limits.specs.Limits.{largest-text, comparison-limit};
 
 pub struct Amount {
     pub status: Status,
@@ -121,7 +123,7 @@ pub struct ComparisonRead {
 }
 
 // A clock, a sign and a numeral. `over`: it is one comparison too many.
-fn comparison(
+fn comparison_next(
     s: &[u8],
     st: Status,
     names: [Name; NAME_SLOTS],
@@ -129,7 +131,7 @@ fn comparison(
     over: bool,
 ) -> ComparisonRead
     requires { ⌜ length (now s) ≤ largest-text ⌝ }
-    ensures { λ r. ⌜ r ≡ comparison (now (s .entry)) st names invariant over ⌝ }
+    ensures { λ r. ⌜ r ≡ comparison-next (now (s .entry)) st names invariant over ⌝ }
 {
     let clock = reader_parts::use_name(s, st, names, FIRST_CLOCK, CLOCK_LIMIT, over);
     let after_clock = clock.status;
@@ -151,8 +153,8 @@ fn comparison(
     }
 }
 
-pub fn no_constraint() -> Constraint
-    ensures { λ r. ⌜ r ≡ no-constraint ⌝ }
+pub fn blank_constraint() -> Constraint
+    ensures { λ r. ⌜ r ≡ blank-constraint ⌝ }
 {
     let sign = Sign::AtMost;
     let none = Comparison {
@@ -194,18 +196,18 @@ fn constraint(
     requires { ⌜ length (now s) ≤ largest-text ⌝ }
     ensures { λ r. ⌜ r ≡ constraint (now (s .entry)) st names invariant closing ⌝ }
 {
-    let mut c = no_constraint();
+    let mut c = blank_constraint();
     let mut q = st;
     loop {
         if COMPARISON_LIMIT <= c.count as usize {
-            let x = comparison(s, q, names, invariant, true);
+            let x = comparison_next(s, q, names, invariant, true);
             let no = x.status;
             return ConstraintRead {
                 status: no,
                 constraint: c,
             };
         }
-        let x = comparison(s, q, names, invariant, false);
+        let x = comparison_next(s, q, names, invariant, false);
         let came = x.status;
         let made = x.comparison;
         c = with_comparison(c, made);
@@ -220,20 +222,42 @@ fn constraint(
     }
 }
 
+// An optional constraint: the token that opens it, its comparisons and the token that closes it.
+fn optional(
+    s: &[u8],
+    st: Status,
+    names: [Name; NAME_SLOTS],
+    opening: usize,
+    invariant: bool,
+    closing: usize,
+) -> ConstraintRead
+    requires { ⌜ length (now s) ≤ largest-text ⌝ }
+    ensures { λ r. ⌜ r ≡ optional opening invariant closing (now (s .entry)) st names ⌝ }
+{
+    if reader_parts::ahead(s, st, opening) {
+        let q = reader_parts::take(s, st, opening);
+        return constraint(s, q, names, invariant, closing);
+    }
+    let c = blank_constraint();
+    ConstraintRead {
+        status: st,
+        constraint: c,
+    }
+}
+
 // An optional `guard` with its comparisons and `;`.
 pub fn guard(s: &[u8], st: Status, names: [Name; NAME_SLOTS]) -> ConstraintRead
     requires { ⌜ length (now s) ≤ largest-text ⌝ }
     ensures { λ r. ⌜ r ≡ guard (now (s .entry)) st names ⌝ }
 {
-    if reader_parts::ahead(s, st, reader_tokens::GUARD) {
-        let q = reader_parts::take(s, st, reader_tokens::GUARD);
-        return constraint(s, q, names, false, reader_tokens::SEMICOLON);
-    }
-    let c = no_constraint();
-    ConstraintRead {
-        status: st,
-        constraint: c,
-    }
+    optional(
+        s,
+        st,
+        names,
+        reader_tokens::GUARD,
+        false,
+        reader_tokens::SEMICOLON,
+    )
 }
 
 // An optional `{` with its comparisons and `}`.
@@ -241,13 +265,12 @@ pub fn invariant(s: &[u8], st: Status, names: [Name; NAME_SLOTS]) -> ConstraintR
     requires { ⌜ length (now s) ≤ largest-text ⌝ }
     ensures { λ r. ⌜ r ≡ invariant (now (s .entry)) st names ⌝ }
 {
-    if reader_parts::ahead(s, st, reader_tokens::OPEN) {
-        let q = reader_parts::take(s, st, reader_tokens::OPEN);
-        return constraint(s, q, names, true, reader_tokens::CLOSE);
-    }
-    let c = no_constraint();
-    ConstraintRead {
-        status: st,
-        constraint: c,
-    }
+    optional(
+        s,
+        st,
+        names,
+        reader_tokens::OPEN,
+        true,
+        reader_tokens::CLOSE,
+    )
 }

@@ -5,10 +5,9 @@ use Prim.Native.Nat.{ℕ, zero, suc}
 use lib.Dec.{eqb}
 use lib.ListN.{length, drop, set, replicate}
 use Rattle.reader_tokens.specs.Kinds as kinds
-use Rattle.reader_tokens.specs.Scan.{value}
+use Rattle.reader_tokens.specs.Scan.{numeral-value}
 use Rattle.reader_tokens.specs.Tokens.{token-at}
 use Rattle.reader_tokens.specs.declared.Token.{Token}
-use Rattle.reader_record.specs.Limits.{clock-limit}
 use Rattle.reader_record.specs.declared.Name.{Name}
 use Rattle.reader_parts.specs.declared.Fault.the-variants.{Misfit}
 use Rattle.reader_parts.specs.declared.Status.{Status}
@@ -18,11 +17,12 @@ use Rattle.reader_parts.specs.Names.{use-name}
 use Rattle.reader_parts.specs.Slots.{first-clock}
 use Rattle.reader_edges.specs.declared.AssignRead.{AssignRead}
 use Rattle.reader_edges.specs.declared.AssignsRead.{AssignsRead}
+use Rattle.limits.specs.Limits.{clock-limit}
 
 -- "in `assign` any value but 0 gives 2"
 unfoldable pub zero-of : List ℕ → Token → Status
 zero-of s t =
-    cond (eqb (t .kind) kinds.numeral && eqb (value 0 (drop (t .place) s)) 0)
+    cond (eqb (t .kind) kinds.numeral && eqb (numeral-value 0 (drop (t .place) s)) 0)
     (At (t .end))
     (Refused (Misfit (t .place)))
 
@@ -41,11 +41,11 @@ assign-next s st names =
 unfoldable pub no-resets : List Bool
 no-resets = replicate clock-limit false
 
--- items joined by commas, then `;`. The counter only makes the recursion plain: it says how many items are read at
--- most, and `counter-free` of Progress proves that any counter above the bytes left gives the same, so that none is
--- ever cut off
+-- items joined by commas, then `;`, where so many more items may come at most: one more than that is refused at the
+-- end of the text. An item takes bytes of the text, so a counter above the bytes left never runs out (`counter-free` of
+-- Progress)
 unfoldable pub assigns-from : ℕ → List ℕ → List Name → Status → List Bool → AssignsRead
-assigns-from zero s names st resets = record { status = st; resets = resets }
+assigns-from zero s names st resets = record { status = Refused (Misfit (length s)); resets = resets }
 assigns-from (suc room) s names st resets =
     let x = assign-next s st names in
     let all = set resets (x .clock) true in
@@ -54,11 +54,11 @@ assigns-from (suc room) s names st resets =
 
 -- "items joined by commas `;`", with the clocks that are reset already; `items-more` and `items-last` of Progress are
 -- its equations, without the counter
-unfoldable pub items : List ℕ → List Name → Status → List Bool → AssignsRead
-items s names st resets = assigns-from (suc (length s)) s names st resets
+unfoldable pub assign-items : List ℕ → List Name → Status → List Bool → AssignsRead
+assign-items s names st resets = assigns-from (suc (length s)) s names st resets
 
 -- "optional `assign` clock `= 0` items joined by commas `;`"
 unfoldable pub assigns : List ℕ → Status → List Name → AssignsRead
 assigns s st names =
-    let given = items s names (take s st kinds.assign) no-resets in
+    let given = assign-items s names (take s st kinds.assign) no-resets in
     cond (ahead s st kinds.assign) given (record { status = st; resets = no-resets })

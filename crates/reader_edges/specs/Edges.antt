@@ -4,7 +4,6 @@ use mathlib.Core.Bool.{Bool, false}
 use mathlib.Core.List.{List}
 use Prim.Native.Nat.{ℕ}
 use Rattle.reader_tokens.specs.Kinds as kinds
-use Rattle.reader_record.specs.Limits.{location-limit}
 use Rattle.reader_record.specs.declared.Name.{Name}
 use Rattle.reader_record.specs.declared.Channel.{Channel}
 use Rattle.reader_parts.specs.declared.Status.{Status}
@@ -15,6 +14,7 @@ use Rattle.reader_constraints.specs.Constraints.{guard}
 use Rattle.reader_edges.specs.declared.EdgeRead.{EdgeRead}
 use Rattle.reader_edges.specs.Labels.{label-next}
 use Rattle.reader_edges.specs.Assigns.{assigns}
+use Rattle.limits.specs.Limits.{location-limit}
 
 -- `over`: it is one edge too many
 unfoldable pub edge-next : List ℕ → Status → List Name → List Channel → Bool → EdgeRead

@@ -3,7 +3,6 @@ use mathlib.Core.Bool.{Bool, false}
 use mathlib.Core.List.{List}
 use Prim.Native.Nat.{ℕ, _<_}
 use native.Mathlib.Omega.{arith}
-use Rattle.reader_record.specs.Limits.{channel-limit}
 use Rattle.reader_record.specs.declared.Name.{Name}
 use Rattle.reader_record.specs.declared.Channel.{Channel}
 use Rattle.reader_parts.specs.declared.Status.{Status}
@@ -11,6 +10,7 @@ use Rattle.reader_parts.specs.Slots.{first-channel}
 use Rattle.reader_parts.specs.Facts.{use-small}
 use Rattle.reader_edges.specs.Labels.{label-next}
 use Rattle.reader_edges.specs.Edges.{edge-next}
+use Rattle.limits.specs.Limits.{channel-limit}
 
 pub channel-small : (s : List ℕ) (st : Status) (names : List Name) (channels : List Channel) (over : Bool)
     → edge-next s st names channels over .channel < channel-limit

@@ -8,7 +8,6 @@ use lib.ListN.{getD}
 use Rattle.reader_tokens.specs.Kinds as kinds
 use Rattle.reader_tokens.specs.Tokens.{token-at}
 use Rattle.reader_tokens.specs.declared.Token.{Token}
-use Rattle.reader_record.specs.Limits.{channel-limit}
 use Rattle.reader_record.specs.Record.{no-channel}
 use Rattle.reader_record.specs.declared.Name.{Name}
 use Rattle.reader_record.specs.declared.Channel.{Channel}
@@ -25,6 +24,7 @@ use Rattle.reader_parts.specs.Names.{use-name}
 use Rattle.reader_parts.specs.Slots.{first-channel}
 use Rattle.reader_edges.specs.declared.MarkRead.{MarkRead}
 use Rattle.reader_edges.specs.declared.LabelRead.{LabelRead}
+use Rattle.limits.specs.Limits.{channel-limit}
 
 abbrev pub no-mark : Fault → MarkRead
 no-mark f = record { status = Refused f; input = false }
@@ -51,9 +51,9 @@ fits direction.Output input = not input
 
 -- the reader has come to st, past the mark of the channel whose name is at `place`: "channel used with the other
 -- mark, at its name"
-unfoldable pub judged : Status → Bool → ℕ → Status
-judged (Refused f) right place = Refused f
-judged (At p) right place = cond right (At p) (Refused (OtherMark place))
+unfoldable pub mark-judged : Status → Bool → ℕ → Status
+mark-judged (Refused f) right place = Refused f
+mark-judged (At p) right place = cond right (At p) (Refused (OtherMark place))
 
 -- "Channels are numbered from 1": number 0 among the channels' slots is channel 1
 unfoldable pub label-of : Bool → ℕ → Label
@@ -66,7 +66,7 @@ label-next s st names channels =
     let mark = mark-next s (channel .status) in
     let right = fits (getD channels (channel .number) no-channel .direction) (mark .input) in
     record {
-      status = take s (judged (mark .status) right (channel .place)) kinds.semicolon;
+      status = take s (mark-judged (mark .status) right (channel .place)) kinds.semicolon;
       channel = channel .number;
       input = mark .input;
       label = label-of (mark .input) (channel .number);

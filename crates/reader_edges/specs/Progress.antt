@@ -7,10 +7,9 @@ use Prim.Native.Nat.{ℕ, zero, suc, _≤_, _<_}
 use native.Mathlib.Omega.{arith}
 use lib.Dec.{eqb}
 use lib.ListN.{length, drop, set}
-use Rattle.reader_record.specs.Limits.{clock-limit}
 use Rattle.reader_record.specs.declared.Name.{Name}
 use Rattle.reader_tokens.specs.Kinds as kinds
-use Rattle.reader_tokens.specs.Scan.{value}
+use Rattle.reader_tokens.specs.Scan.{numeral-value}
 use Rattle.reader_tokens.specs.Tokens.{token-at}
 use Rattle.reader_parts.specs.declared.Status.{Status}
 use Rattle.reader_parts.specs.declared.Status.the-variants.{At, Refused}
@@ -19,18 +18,19 @@ use Rattle.reader_parts.specs.Names.{use-name}
 use Rattle.reader_parts.specs.Slots.{first-clock}
 use Rattle.reader_parts.specs.Progress.{left, left-all, past-token, take-less, take-no-more, use-no-more}
 use Rattle.reader_edges.specs.declared.AssignRead.{AssignRead}
-use Rattle.reader_edges.specs.Assigns.{zero-of, zero-next, assign-next, assigns-from, items}
+use Rattle.reader_edges.specs.Assigns.{zero-of, zero-next, assign-next, assigns-from, assign-items}
+use Rattle.limits.specs.Limits.{clock-limit}
 
 module _ (s : List ℕ) where
   zero-no-more : (st : Status) → left s (zero-next s st) ≤ left s st
   unfolding zero-next zero-of left
   zero-no-more (Refused f) = omega arith
   zero-no-more (At p) =
-      by (eqb (token-at s p .kind) kinds.numeral) refl (eqb (value 0 (drop (token-at s p .place) s)) 0) refl
+      by (eqb (token-at s p .kind) kinds.numeral) refl (eqb (numeral-value 0 (drop (token-at s p .place) s)) 0) refl
     where
       by :
           (a : Bool) → eqb (token-at s p .kind) kinds.numeral ≡ a
-          → (b : Bool) → eqb (value 0 (drop (token-at s p .place) s)) 0 ≡ b
+          → (b : Bool) → eqb (numeral-value 0 (drop (token-at s p .place) s)) 0 ≡ b
           → left s (zero-next s (At p)) ≤ left s (At p)
       by false e b f = rw e (omega arith)
       by true e false f = rw (e, f) (omega arith)
@@ -77,16 +77,16 @@ module _ (s : List ℕ) where
 
     module _ (st : Status) (resets : List Bool) {x : AssignRead} (e : x ≡ assign-next s st names) where
       -- an item with a comma after it: the other items follow
-      pub items-more : ahead s (x .status) kinds.comma ≡ true → items s names st resets
-          ≡ items s names (take s (x .status) kinds.comma) (set resets (x .clock) true)
-      unfolding items assigns-from
+      pub items-more : ahead s (x .status) kinds.comma ≡ true → assign-items s names st resets
+          ≡ assign-items s names (take s (x .status) kinds.comma) (set resets (x .clock) true)
+      unfolding assign-items assigns-from
       items-more h =
           let fewer : left s (take s (x .status) kinds.comma) < left s st = comma-less names st e h in
           rw (sym e, h) (counter-free (length s) (suc (length s)) (take s (x .status) kinds.comma)
           (set resets (x .clock) true) (omega (arith, left-all s st)) (omega (arith, left-all s st)))
 
       -- the last item: `;` follows
-      pub items-last : ahead s (x .status) kinds.comma ≡ false → items s names st resets
+      pub items-last : ahead s (x .status) kinds.comma ≡ false → assign-items s names st resets
           ≡ record { status = take s (x .status) kinds.semicolon; resets = set resets (x .clock) true }
-      unfolding items assigns-from
+      unfolding assign-items assigns-from
       items-last h = rw (sym e, h)

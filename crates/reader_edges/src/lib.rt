@@ -1,27 +1,27 @@
-// An edge: `A -> B {` optional guard, label, optional assignments `}`.
+// Reads an edge of a contract text: `A -> B {` optional guard, label, optional assignments `}`.
 ghost use mathlib.Core.Path.{_≡_};
 ghost use mathlib.Core.Bool.{true, false};
 ghost use Prim.Native.Nat.{_+_, _≤_, _<_};
 ghost use lib.ListN.{length, getD};
-ghost use Rattle.reader_record.specs.Limits.{largest-text, channel-limit};
 ghost use Rattle.reader_record.specs.Record.{no-channel};
-ghost use Rattle.reader_edges.specs.Labels.{no-mark, mark-next, fits, judged, label-of, label-next};
-ghost use Rattle.reader_edges.specs.Assigns.{zero-next, assign-next, no-resets, items, assigns};
+ghost use Rattle.reader_edges.specs.Labels.{no-mark, mark-next, fits, mark-judged, label-of, label-next};
+ghost use Rattle.reader_edges.specs.Assigns.{zero-next, assign-next, no-resets, assign-items, assigns};
 ghost use Rattle.reader_edges.specs.Edges.{edge-next};
+use limits::CHANNEL_LIMIT;
+use limits::CLOCK_LIMIT;
+use limits::LOCATION_LIMIT;
 use reader_parts::FIRST_CHANNEL;
 use reader_parts::FIRST_CLOCK;
 use reader_parts::FIRST_LOCATION;
 use reader_parts::Fault;
 use reader_parts::NAME_SLOTS;
 use reader_parts::Status;
-use reader_record::CHANNEL_LIMIT;
-use reader_record::CLOCK_LIMIT;
 use reader_record::Channel;
 use reader_record::Direction;
 use reader_record::Edge;
-use reader_record::LOCATION_LIMIT;
 use reader_record::Label;
 use reader_record::Name;
+ghost use Rattle.limits.specs.Limits.{largest-text, channel-limit};
 
 pub struct MarkRead {
     pub status: Status,
@@ -85,8 +85,8 @@ fn fits(d: Direction, input: bool) -> bool
     }
 }
 
-fn judged(st: Status, right: bool, place: usize) -> Status
-    ensures { λ r. ⌜ r ≡ judged st right place ⌝ }
+fn mark_judged(st: Status, right: bool, place: usize) -> Status
+    ensures { λ r. ⌜ r ≡ mark-judged st right place ⌝ }
 {
     match st {
         Status::Refused(f) => Status::Refused(f),
@@ -136,7 +136,7 @@ fn label_next(
     let direction = direction_at(channels, k);
     let right = fits(direction, input);
     let marked = mark.status;
-    let passed = judged(marked, right, channel.place);
+    let passed = mark_judged(marked, right, channel.place);
     let end = reader_parts::take(s, passed, reader_tokens::SEMICOLON);
     let label = label_of(input, k);
     LabelRead {
@@ -203,7 +203,7 @@ pub struct AssignsRead {
 // Items joined by commas, then `;`. Each comma that is taken leaves fewer bytes.
 fn assign_items(s: &[u8], st: Status, names: [Name; NAME_SLOTS]) -> AssignsRead
     requires { ⌜ length (now s) ≤ largest-text ⌝ }
-    ensures { λ r. ⌜ r ≡ items (now (s .entry)) names st no-resets ⌝ }
+    ensures { λ r. ⌜ r ≡ assign-items (now (s .entry)) names st no-resets ⌝ }
 {
     let mut resets = [false; CLOCK_LIMIT];
     let mut q = st;

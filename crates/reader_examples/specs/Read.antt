@@ -3,7 +3,7 @@ use mathlib.Core.Path.{_≡_, refl}
 use mathlib.Core.List.{List}
 use Prim.Native.Nat.{ℕ}
 use Rattle.reader_record.specs.declared.Text.{Text}
-use Rattle.reader.specs.declared.Answer.the-variants.{Accepted}
+use Rattle.refusals.specs.declared.Verdict.the-variants.{Accepted}
 use Rattle.reader.specs.Reading.{read-text}
 use Rattle.reader_examples.specs.Opened.{opened}
 use Rattle.reader_examples.specs.Texts.{post, rearm, early, hush, idle}

@@ -4,7 +4,6 @@ use mathlib.Core.Bool.{Bool, true, false}
 use mathlib.Core.List.{List, [], _∷_, _++_}
 use Prim.Native.Nat.{ℕ, _-_}
 use lib.ListN.{length, replicate}
-use Rattle.reader_record.specs.Limits.{channel-limit, clock-limit, location-limit, edge-limit, comparison-limit}
 use Rattle.reader_record.specs.Record.{no-name, no-channel, no-comparison}
 use Rattle.reader_record.specs.declared.Name.{Name}
 use Rattle.reader_record.specs.declared.Direction.{Direction}
@@ -17,8 +16,9 @@ use Rattle.reader_record.specs.declared.Label.{Label}
 use Rattle.reader_record.specs.declared.Label.the-variants.{Input, Output}
 use Rattle.reader_record.specs.declared.Edge.{Edge}
 use Rattle.reader_record.specs.declared.Text.{Text}
-use Rattle.reader_lists.specs.State.{no-edge}
-use Rattle.reader_constraints.specs.Constraints.{no-constraint}
+use Rattle.reader_lists.specs.State.{blank-edge}
+use Rattle.reader_constraints.specs.Constraints.{blank-constraint}
+use Rattle.limits.specs.Limits.{channel-limit, clock-limit, location-limit, edge-limit, comparison-limit}
 
 -- a list as long as the code's array
 abbrev filled : {A : Type 0} → ℕ → A → List A → List A
@@ -59,52 +59,52 @@ marker late wait done es = record {
   clocks = filled clock-limit no-name (at 57 1 ∷ []);
   «clock_count» = 1;
   locations =
-      filled location-limit (record { name = no-name; invariant = no-constraint })
-      (record { name = at 66 4; invariant = wait } ∷ record { name = done; invariant = no-constraint } ∷ []);
+      filled location-limit (record { name = no-name; invariant = blank-constraint })
+      (record { name = at 66 4; invariant = wait } ∷ record { name = done; invariant = blank-constraint } ∷ []);
   «location_count» = 2;
   init = 0;
-  edges = filled edge-limit no-edge es;
+  edges = filled edge-limit blank-edge es;
   «edge_count» = length es;
 }
 
 abbrev pub post-record : Text
 post-record =
     marker direction.Output (x-is AtMost 3) (at 83 4)
-    (edge 0 1 no-constraint (Input 1) false
-    ∷ edge 0 0 no-constraint (Input 2) false
+    (edge 0 1 blank-constraint (Input 1) false
+    ∷ edge 0 0 blank-constraint (Input 2) false
     ∷ edge 0 1 (x-is AtLeast 3) (Output 3) false
-    ∷ edge 1 1 no-constraint (Input 1) false
-    ∷ edge 1 1 no-constraint (Input 2) false
+    ∷ edge 1 1 blank-constraint (Input 1) false
+    ∷ edge 1 1 blank-constraint (Input 2) false
     ∷ [])
 
 -- the second edge resets x
 abbrev pub rearm-record : Text
 rearm-record =
     marker direction.Output (x-is AtMost 3) (at 83 4)
-    (edge 0 1 no-constraint (Input 1) false
-    ∷ edge 0 0 no-constraint (Input 2) true
+    (edge 0 1 blank-constraint (Input 1) false
+    ∷ edge 0 0 blank-constraint (Input 2) true
     ∷ edge 0 1 (x-is AtLeast 3) (Output 3) false
-    ∷ edge 1 1 no-constraint (Input 1) false
-    ∷ edge 1 1 no-constraint (Input 2) false
+    ∷ edge 1 1 blank-constraint (Input 1) false
+    ∷ edge 1 1 blank-constraint (Input 2) false
     ∷ [])
 
 -- both constants are 2
 abbrev pub early-record : Text
 early-record =
     marker direction.Output (x-is AtMost 2) (at 83 4)
-    (edge 0 1 no-constraint (Input 1) false
-    ∷ edge 0 0 no-constraint (Input 2) false
+    (edge 0 1 blank-constraint (Input 1) false
+    ∷ edge 0 0 blank-constraint (Input 2) false
     ∷ edge 0 1 (x-is AtLeast 2) (Output 3) false
-    ∷ edge 1 1 no-constraint (Input 1) false
-    ∷ edge 1 1 no-constraint (Input 2) false
+    ∷ edge 1 1 blank-constraint (Input 1) false
+    ∷ edge 1 1 blank-constraint (Input 2) false
     ∷ [])
 
 abbrev hushed : List Edge
 hushed =
-    edge 0 1 no-constraint (Input 1) false
-    ∷ edge 0 0 no-constraint (Input 2) false
-    ∷ edge 1 1 no-constraint (Input 1) false
-    ∷ edge 1 1 no-constraint (Input 2) false
+    edge 0 1 blank-constraint (Input 1) false
+    ∷ edge 0 0 blank-constraint (Input 2) false
+    ∷ edge 1 1 blank-constraint (Input 1) false
+    ∷ edge 1 1 blank-constraint (Input 2) false
     ∷ []
 
 -- no edge names `late`
@@ -113,4 +113,4 @@ hush-record = marker direction.Unused (x-is AtMost 3) (at 83 4) hushed
 
 -- no invariant, so that Done stands earlier in the text
 abbrev pub idle-record : Text
-idle-record = marker direction.Unused no-constraint (at 72 4) hushed
+idle-record = marker direction.Unused blank-constraint (at 72 4) hushed

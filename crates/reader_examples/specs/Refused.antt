@@ -1,15 +1,18 @@
 -- Refusals, each with its code and byte place, and the places where document 01 could be read two ways: computed by the
 -- definition of reading.
 use mathlib.Core.Path.{_≡_, refl}
+use Prim.Native.Nat.{suc}
+use Prim.Native.Char.{code}
 use Prim.Native.String.{String}
 use lib.ListN.{replicate}
 use Rattle.refusals.specs.declared.Refusal.{Refusal}
 use Rattle.refusals.specs.Refusals.{text-too-long, misfit, name-too-long, declared-before, unknown-name, constant-too-large, too-many-items, other-mark}
 use Rattle.reader_tokens.specs.Scan.{bytes}
 use Rattle.reader_lists.specs.State.{no-text}
-use Rattle.reader.specs.declared.Answer.the-variants.{Accepted, Refused}
+use Rattle.refusals.specs.declared.Verdict.the-variants.{Accepted, Refused}
 use Rattle.reader.specs.Reading.{read-text}
 use Rattle.reader_examples.specs.Opened.{opened}
+use Rattle.limits.specs.Limits.{largest-text}
 
 -- the text is refused so, and the record beside the refusal is the fixed one
 abbrev pub Refuses : String → Refusal → Type 0
@@ -18,7 +21,8 @@ Refuses s r = read-text (bytes s) ≡ record { answer = Refused r; text = no-tex
 abbrev pub Accepts : String → Type 0
 Accepts s = read-text (bytes s) .answer ≡ Accepted
 
-pub too-long : read-text (replicate 32769 32) ≡ record { answer = Refused text-too-long; text = no-text }
+pub too-long :
+    read-text (replicate (suc largest-text) (code " ")) ≡ record { answer = Refused text-too-long; text = no-text }
 unfolding opened
 too-long = refl
 

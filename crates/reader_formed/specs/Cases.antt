@@ -1,13 +1,13 @@
--- Cases on a test, on an index of a list with one item stored, and on where a run of items ends.
+-- Cases on a test, on an index of a list with one item stored or of equal items, and on where a run of items ends.
 use mathlib.Core.Path.{_≡_, refl, sym}
 use mathlib.Core.Bool.{Bool, true, false, cond, _&&_}
 use mathlib.Core.List.{List, [], _∷_}
 use Prim.Native.Nat.{ℕ, zero, suc, _<_}
 use native.Mathlib.Omega.{arith}
-use lib.Dec.{eqb}
-use lib.ListN.{length, getD, set}
+use lib.Dec.{eqb, ltb}
+use lib.ListN.{length, getD, set, replicate, length-replicate, getD-replicate, List·getD-eq-default}
 use lib.Seq.{getD-set-same, getD-set-other}
-use borrow.Author.Tests.{eqb-true, eqb-false}
+use borrow.Author.Tests.{eqb-true, eqb-false, ltb-true, ltb-false}
 use Rattle.reader_tokens.specs.Scan.{run}
 
 pub split : {A : Type 0} (P : A → Type 0) (b : Bool) {x y : A} → (b ≡ true → P x) → (b ≡ false → P y) → P (cond b x y)
@@ -45,6 +45,14 @@ stored P l k i a d h f g =
     when-equal (P (getD (set l k a) i d)) i k
     (λ e. rw (e, getD-set-same l k a d h) (f e))
     (λ e. rw (getD-set-other l k i a d e) (g e))
+
+-- a list of equal items has that item wherever it is read
+pub blank : {A : Type 0} (n i : ℕ) (a : A) → getD (replicate n a) i a ≡ a
+blank n i a = by (ltb i n) refl
+  where
+    by : (b : Bool) → ltb i n ≡ b → getD (replicate n a) i a ≡ a
+    by true e = getD-replicate n i a a (ltb-true i n e)
+    by false e = List·getD-eq-default (replicate n a) a (omega (arith, length-replicate n a, ltb-false i n e))
 
 module _ {A : Type 0} (p : A → Bool) (d : A) where
   -- the item at which a run stops, and those before it

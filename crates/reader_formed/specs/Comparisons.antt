@@ -7,7 +7,6 @@ use Prim.Native.Nat.{ℕ, zero, suc, _+_, _≤_, _<_}
 use native.Mathlib.Omega.{arith}
 use lib.Dec.{eqb}
 use lib.ListN.{length, length-set}
-use Rattle.reader_record.specs.Limits.{clock-limit, comparison-limit, largest-constant}
 use Rattle.reader_parts.specs.Slots.{first-clock}
 use Rattle.reader_tokens.specs.Kinds as kinds
 use Rattle.reader_tokens.specs.Tokens.{token-at}
@@ -25,11 +24,12 @@ use Rattle.reader_constraints.specs.declared.SignRead.{SignRead}
 use Rattle.reader_constraints.specs.declared.ComparisonRead.{ComparisonRead}
 use Rattle.reader_constraints.specs.declared.ConstraintRead.{ConstraintRead}
 use Rattle.reader_constraints.specs.Facts.{constant-small}
-use Rattle.reader_constraints.specs.Constraints.{constant, sign-of, sign-next, comparison, no-constraint, with-comparison, constraint-from, constraint, guard, invariant}
+use Rattle.reader_constraints.specs.Constraints.{constant, sign-of, sign-next, comparison-next, blank-constraint, with-comparison, constraint-from, constraint, optional}
 use Rattle.reader_formed.specs.Cases.{split, either, never, stored}
 use Rattle.reader_formed.specs.Going.{Going, take-going}
 use Rattle.reader_formed.specs.Declared.{used}
 use Rattle.reader_formed.specs.Slots.{Known, used-below}
+use Rattle.limits.specs.Limits.{clock-limit, comparison-limit, largest-constant}
 
 -- a constant that is read
 record Constant (st : Status) (a : Amount) : Type 0 where
@@ -76,9 +76,9 @@ module _ (s : List ℕ) (names : List Name) (only : Bool) where
         (clocks : ℕ) → Known s names first-clock clock-limit clocks → Formed-comparison clocks only (x .comparison)
 
   compared :
-      (st : Status) (over : Bool) → Going (comparison s st names only over .status)
-      → Compared st (comparison s st names only over)
-  unfolding comparison
+      (st : Status) (over : Bool) → Going (comparison-next s st names only over .status)
+      → Compared st (comparison-next s st names only over)
+  unfolding comparison-next
   compared st over g =
       let c = constant-read s _ g in
       let i = sign-read s _ only (c .before) in
@@ -103,8 +103,8 @@ record So-far (clocks : ℕ) (only : Bool) (room : ℕ) (c : Constraint) : Type 
   limit : c .count + room ≤ comparison-limit
   each : (i : ℕ) → i < c .count → Formed-comparison clocks only (record-of.comparison c i)
 
-none-yet : (clocks : ℕ) (only : Bool) → So-far clocks only comparison-limit no-constraint
-unfolding no-constraint
+none-yet : (clocks : ℕ) (only : Bool) → So-far clocks only comparison-limit blank-constraint
+unfolding blank-constraint
 none-yet clocks only = record { size = refl; limit = omega arith; each = λ i h. absurd (omega arith) }
 
 with-one :
@@ -141,7 +141,7 @@ module _ (s : List ℕ) (names : List Name) (only : Bool) where
   from-read closing zero st c =
       λ g. record { before = compared s names only st true g .before; formed = λ n k h. whole n only zero c h }
   from-read closing (suc room) st c =
-      either P (ahead s (comparison s st names only false .status) kinds.both)
+      either P (ahead s (comparison-next s st names only false .status) kinds.both)
       (λ g. more (from-read closing room _ _ g))
       (λ g. last (compared s names only st false (take-going s _ closing g)))
     where
@@ -149,7 +149,7 @@ module _ (s : List ℕ) (names : List Name) (only : Bool) where
       P r = Going (r .status) → Constrained (suc room) st c r
 
       x : ComparisonRead
-      x = comparison s st names only false
+      x = comparison-next s st names only false
 
       last :
           Compared s names only st x → {to : Status}
@@ -181,29 +181,22 @@ module _ (s : List ℕ) (names : List Name) (only : Bool) where
       → Constraint-read st (constraint s st names only closing)
   unfolding constraint
   given closing st g =
-      let q = from-read closing comparison-limit st no-constraint g in
+      let q = from-read closing comparison-limit st blank-constraint g in
       record { before = q .before; formed = λ n k. q .formed n k (none-yet n only) }
 
-  absent : (st : Status) → Going st → Constraint-read st (record { status = st; constraint = no-constraint })
-  absent st g = record { before = g; formed = λ n k. whole n only comparison-limit no-constraint (none-yet n only) }
+  absent : (st : Status) → Going st → Constraint-read st (record { status = st; constraint = blank-constraint })
+  absent st g = record { before = g; formed = λ n k. whole n only comparison-limit blank-constraint (none-yet n only) }
 
   after-token : (st : Status) (k : ℕ) {r : ConstraintRead} → Constraint-read (take s st k) r → Constraint-read st r
   after-token st k q = record { before = take-going s st k (q .before); formed = q .formed }
 
-pub guard-read :
-    (s : List ℕ) (st : Status) (names : List Name) → Going (guard s st names .status)
-    → Constraint-read s names false st (guard s st names)
-unfolding guard
-guard-read s st names =
-    either (λ (r : ConstraintRead). Going (r .status) → Constraint-read s names false st r) (ahead s st kinds.guard)
-    (λ g. after-token s names false st kinds.guard (given s names false kinds.semicolon (take s st kinds.guard) g))
-    (λ g. absent s names false st g)
-
-pub invariant-read :
-    (s : List ℕ) (st : Status) (names : List Name) → Going (invariant s st names .status)
-    → Constraint-read s names true st (invariant s st names)
-unfolding invariant
-invariant-read s st names =
-    either (λ (r : ConstraintRead). Going (r .status) → Constraint-read s names true st r) (ahead s st kinds.opens)
-    (λ g. after-token s names true st kinds.opens (given s names true kinds.closes (take s st kinds.opens) g))
-    (λ g. absent s names true st g)
+-- an optional constraint that is read
+pub optional-read :
+    (opening : ℕ) (only : Bool) (closing : ℕ) (s : List ℕ) (st : Status) (names : List Name)
+    → Going (optional opening only closing s st names .status)
+    → Constraint-read s names only st (optional opening only closing s st names)
+unfolding optional
+optional-read opening only closing s st names =
+    either (λ (r : ConstraintRead). Going (r .status) → Constraint-read s names only st r) (ahead s st opening)
+    (λ g. after-token s names only st opening (given s names only closing (take s st opening) g))
+    (λ g. absent s names only st g)

@@ -1,12 +1,12 @@
 -- An edge that is read: its locations, clocks and channel are declared, and its mark fits the channel's earlier uses.
-use mathlib.Core.Path.{_≡_, refl, sym}
+use mathlib.Core.Path.{_≡_, refl, sym, _∙_}
 use mathlib.Core.Bool.{Bool, true, false}
 use mathlib.Core.List.{List}
 use Prim.Native.Nat.{ℕ, zero, suc, _+_, _<_}
 use native.Mathlib.Omega.{arith}
 use lib.Dec.{T}
-use lib.ListN.{length, getD}
-use Rattle.reader_record.specs.Limits.{channel-limit, clock-limit, location-limit}
+use lib.ListN.{length, getD, set}
+use lib.Seq.{getD-set-other}
 use Rattle.reader_parts.specs.Slots.{first-channel, first-clock, first-location}
 use Rattle.reader_tokens.specs.Kinds as kinds
 use Rattle.reader_record.specs.declared.Name.{Name}
@@ -20,32 +20,33 @@ use Rattle.reader_record.specs.Formed.{agrees}
 use Rattle.reader_parts.specs.declared.Status.{Status}
 use Rattle.reader_parts.specs.declared.Status.the-variants.{At, Refused}
 use Rattle.reader_parts.specs.Status.{take, ahead}
-use Rattle.reader_constraints.specs.Constraints.{guard}
 use Rattle.reader_edges.specs.declared.LabelRead.{LabelRead}
+use Rattle.reader_edges.specs.declared.AssignRead.{AssignRead}
 use Rattle.reader_edges.specs.declared.AssignsRead.{AssignsRead}
 use Rattle.reader_edges.specs.declared.EdgeRead.{EdgeRead}
-use Rattle.reader_edges.specs.Labels.{mark-next, fits, judged, label-of, label-next}
-use Rattle.reader_edges.specs.Assigns.{zero-next, assign-next, assigns-from, items, assigns}
+use Rattle.reader_edges.specs.Labels.{mark-next, fits, mark-judged, label-of, label-next}
+use Rattle.reader_edges.specs.Assigns.{zero-next, assign-next, no-resets, assigns-from, assign-items, assigns}
 use Rattle.reader_edges.specs.Edges.{edge-next}
-use Rattle.reader_lists.specs.State.{direction-of}
-use Rattle.reader_formed.specs.Cases.{either, never}
+use Rattle.reader_lists.specs.State.{direction-by}
+use Rattle.reader_formed.specs.Cases.{either, never, when-equal, blank}
 use Rattle.reader_formed.specs.Going.{Going, take-going}
 use Rattle.reader_formed.specs.Declared.{used}
 use Rattle.reader_formed.specs.Slots.{Known, used-below}
-use Rattle.reader_formed.specs.Comparisons.{Formed-comparisons, guard-read}
+use Rattle.reader_formed.specs.Comparisons.{Formed-comparisons, optional-read}
+use Rattle.limits.specs.Limits.{channel-limit, clock-limit, location-limit}
 
 mark-going : (s : List ℕ) (st : Status) → Going (mark-next s st .status) → Going st
 unfolding mark-next
 mark-going s (At p) g = tt
 mark-going s (Refused f) g = g
 
-judged-going : (st : Status) (right : Bool) (place : ℕ) → Going (judged st right place) → Going st
-unfolding judged
+judged-going : (st : Status) (right : Bool) (place : ℕ) → Going (mark-judged st right place) → Going st
+unfolding mark-judged
 judged-going (At p) right place g = tt
 judged-going (Refused f) right place g = g
 
-judged-right : (st : Status) (right : Bool) (place : ℕ) → Going (judged st right place) → right ≡ true
-unfolding judged
+judged-right : (st : Status) (right : Bool) (place : ℕ) → Going (mark-judged st right place) → right ≡ true
+unfolding mark-judged
 judged-right (At p) true place g = refl
 judged-right (At p) false place g = absurd g
 judged-right (Refused f) right place g = absurd g
@@ -56,16 +57,16 @@ unfolding label-of channel
 label-channel true k = refl
 label-channel false k = refl
 
-pub label-agrees : (input : Bool) (k : ℕ) → T (agrees (label-of input k) (direction-of input))
-unfolding label-of agrees direction-of
+pub label-agrees : (input : Bool) (k : ℕ) → T (agrees (label-of input k) (direction-by input))
+unfolding label-of agrees direction-by
 label-agrees true k = tt
 label-agrees false k = tt
 
 -- a label that agrees with the direction so far agrees with the mark that fits it
 pub still-agrees :
     (l : Label) (d : Direction) (input : Bool) → fits d input ≡ true → T (agrees l d)
-    → T (agrees l (direction-of input))
-unfolding fits agrees direction-of
+    → T (agrees l (direction-by input))
+unfolding fits agrees direction-by
 still-agrees (label.Input c) direction.Unused input f h = absurd h
 still-agrees (label.Input c) direction.Input true f h = tt
 still-agrees (label.Input c) direction.Input false f h = never (sym f)
@@ -106,28 +107,83 @@ unfolding zero-next
 zero-going s (At p) g = tt
 zero-going s (Refused f) g = g
 
-assign-going : (s : List ℕ) (st : Status) (names : List Name) → Going (assign-next s st names .status) → Going st
-unfolding assign-next
-assign-going s st names g =
-    used s names first-clock clock-limit (omega arith) false st (take-going s _ kinds.becomes (zero-going s _ g))
-    .before
+-- clocks below `count` alone are assigned
+abbrev pub Assigned : ℕ → List Bool → Type 0
+Assigned count resets = (k : ℕ) → getD resets k false ≡ true → k < count
 
-items-going :
-    (s : List ℕ) (names : List Name) (room : ℕ) (st : Status) (resets : List Bool)
-    → Going (assigns-from room s names st resets .status) → Going st
-unfolding assigns-from
-items-going s names zero st resets = λ g. g
-items-going s names (suc room) st resets =
-    either (λ (r : AssignsRead). Going (r .status) → Going st) (ahead s (assign-next s st names .status) kinds.comma)
-    (λ g. assign-going s st names (take-going s _ kinds.comma (items-going s names room _ _ g)))
-    (λ g. assign-going s st names (take-going s _ kinds.semicolon g))
+none-assigned : (count : ℕ) → Assigned count no-resets
+unfolding no-resets
+none-assigned count k e = never (sym e ∙ blank clock-limit k false)
 
-assigns-going : (s : List ℕ) (st : Status) (names : List Name) → Going (assigns s st names .status) → Going st
-unfolding assigns items
-assigns-going s st names =
-    either (λ (r : AssignsRead). Going (r .status) → Going st) (ahead s st kinds.assign)
-    (λ g. take-going s st kinds.assign (items-going s names (suc (length s)) _ _ g))
-    (λ g. g)
+one-assigned :
+    (count j : ℕ) (resets : List Bool) → j < count → Assigned count resets → Assigned count (set resets j true)
+one-assigned count j resets l h k e =
+    when-equal (k < count) k j
+    (λ q. omega arith)
+    (λ q. h k (sym (getD-set-other resets j k true false q) ∙ e))
+
+module _ (s : List ℕ) (names : List Name) where
+  -- an item of `assign` that is read
+  record Item-read (st : Status) (r : AssignRead) : Type 0 where
+    before : Going st
+    known : (count : ℕ) → Known s names first-clock clock-limit count → r .clock < count
+
+  item-read : (st : Status) → Going (assign-next s st names .status) → Item-read st (assign-next s st names)
+  unfolding assign-next
+  item-read st g =
+      let u = used s names first-clock clock-limit (omega arith) false st
+      (take-going s _ kinds.becomes (zero-going s _ g)) in
+      record { before = u .before; known = λ n k. used-below s st names first-clock clock-limit n _ u k }
+
+  -- assignments that are read, where clocks are assigned already
+  record Assigns-read (st : Status) (resets : List Bool) (r : AssignsRead) : Type 0 where
+    before : Going st
+    assigned :
+        (count : ℕ) → Known s names first-clock clock-limit count → Assigned count resets
+        → Assigned count (r .resets)
+
+  items-read :
+      (room : ℕ) (st : Status) (resets : List Bool) → Going (assigns-from room s names st resets .status)
+      → Assigns-read st resets (assigns-from room s names st resets)
+  unfolding assigns-from
+  items-read zero st resets = λ g. absurd g
+  items-read (suc room) st resets =
+      either P (ahead s (x .status) kinds.comma)
+      (λ g. more (items-read room _ _ g))
+      (λ g. last (item-read st (take-going s _ kinds.semicolon g)))
+    where
+      P : AssignsRead → Type 0
+      P r = Going (r .status) → Assigns-read st resets r
+
+      x : AssignRead
+      x = assign-next s st names
+
+      last :
+          Item-read st x → {to : Status}
+          → Assigns-read st resets (record { status = to; resets = set resets (x .clock) true })
+      last m = record {
+        before = m .before;
+        assigned = λ n k h. one-assigned n (x .clock) resets (m .known n k) h;
+      }
+
+      more :
+          {r : AssignsRead} → Assigns-read (take s (x .status) kinds.comma) (set resets (x .clock) true) r
+          → Assigns-read st resets r
+      more q =
+          let m = item-read st (take-going s (x .status) kinds.comma (q .before)) in
+          record {
+            before = m .before;
+            assigned = λ n k h. q .assigned n k (one-assigned n (x .clock) resets (m .known n k) h);
+          }
+
+  assigns-read :
+      (st : Status) → Going (assigns s st names .status) → Assigns-read st no-resets (assigns s st names)
+  unfolding assigns assign-items
+  assigns-read st =
+      either (λ (r : AssignsRead). Going (r .status) → Assigns-read st no-resets r) (ahead s st kinds.assign)
+      (λ g. let q = items-read (suc (length s)) _ _ g in
+      record { before = take-going s st kinds.assign (q .before); assigned = q .assigned })
+      (λ g. record { before = g; assigned = λ n k h. h })
 
 -- an edge that is read
 pub record Edge-read (s : List ℕ) (st : Status) (names : List Name) (channels : List Channel) (r : EdgeRead) : Type 0
@@ -140,6 +196,7 @@ pub record Edge-read (s : List ℕ) (st : Status) (names : List Name) (channels 
         (count : ℕ) → Known s names first-clock clock-limit count → Formed-comparisons count false (r .edge .guard)
     pub source : (count : ℕ) → Known s names first-location location-limit count → r .edge .source < count
     pub target : (count : ℕ) → Known s names first-location location-limit count → r .edge .target < count
+    pub assigned : (count : ℕ) → Known s names first-clock clock-limit count → Assigned count (r .edge .resets)
 
 pub edge-read :
     (s : List ℕ) (st : Status) (names : List Name) (channels : List Channel) (over : Bool)
@@ -147,8 +204,9 @@ pub edge-read :
     → Edge-read s st names channels (edge-next s st names channels over)
 unfolding edge-next
 edge-read s st names channels over g =
-    let l = labelled s _ names channels (assigns-going s _ names (take-going s _ kinds.closes g)) in
-    let q = guard-read s _ names (l .before) in
+    let a = assigns-read s names _ (take-going s _ kinds.closes g) in
+    let l = labelled s _ names channels (a .before) in
+    let q = optional-read kinds.guard false kinds.semicolon s _ names (l .before) in
     let t = used s names first-location location-limit (omega arith) false _ (take-going s _ kinds.opens (q .before)) in
     let o = used s names first-location location-limit (omega arith) over st (take-going s _ kinds.arrow (t .before)) in
     record {
@@ -159,4 +217,5 @@ edge-read s st names channels over g =
       guard = q .formed;
       source = λ n k. used-below s st names first-location location-limit n _ o k;
       target = λ n k. used-below s _ names first-location location-limit n _ t k;
+      assigned = λ n k. a .assigned n k (none-assigned n);
     }

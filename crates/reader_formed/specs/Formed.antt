@@ -2,11 +2,10 @@
 use mathlib.Core.Path.{_≡_, refl, sym, subst}
 use mathlib.Core.Bool.{Bool, true, false}
 use mathlib.Core.List.{List}
-use Prim.Native.Nat.{ℕ, _+_, _<_}
+use Prim.Native.Nat.{ℕ, _+_, _-_, _<_}
 use native.Mathlib.Omega.{arith}
 use lib.Dec.{ltb}
 use lib.ListN.{length}
-use Rattle.reader_record.specs.Limits.{largest-text, location-limit}
 use Rattle.reader_parts.specs.Slots.{process-slot, process-limit, first-location}
 use Rattle.reader_tokens.specs.Kinds as kinds
 use Rattle.reader_record.specs.declared.Name.{Name}
@@ -17,12 +16,12 @@ use Rattle.reader_parts.specs.declared.Status.{Status}
 use Rattle.reader_parts.specs.declared.Status.the-variants as status
 use Rattle.reader_parts.specs.Status.{ahead}
 use Rattle.reader_parts.specs.Names.{declare, use-name}
-use Rattle.reader_lists.specs.declared.Item.{Item}
-use Rattle.reader_lists.specs.declared.Item.the-variants.{Channel, Location}
-use Rattle.reader_lists.specs.declared.State.{State}
+use Rattle.reader_lists.specs.Lists.{Item}
+use Rattle.reader_lists.specs.Lists.Item.{Channel, Location}
+use Rattle.reader_lists.specs.State.{State}
 use Rattle.reader_lists.specs.State.{with-init}
-use Rattle.reader.specs.declared.Answer.{Answer}
-use Rattle.reader.specs.declared.Answer.the-variants.{Accepted, Refused}
+use Rattle.refusals.specs.declared.Verdict.{Verdict}
+use Rattle.refusals.specs.declared.Verdict.the-variants.{Accepted, Refused}
 use Rattle.reader.specs.declared.Parsed.{Parsed}
 use Rattle.reader.specs.Reading.{start, channel-part, list-part, process-part, location-part, init-part, end-part, read-whole, refused, answer, read-text}
 use Rattle.reader_formed.specs.Promise.{Names-within, Names-differ, Unlike}
@@ -34,6 +33,7 @@ use Rattle.reader_formed.specs.Comparisons.{Formed-comparisons}
 use Rattle.reader_formed.specs.State.{So-far, process-more, init-chosen}
 use Rattle.reader_formed.specs.Lists.{Good, Keeps, then, same-state, next-keeps, stopped-keeps, fresh, locations-known, list-keeps}
 use Rattle.reader_formed.specs.Start.{start-good}
+use Rattle.limits.specs.Limits.{largest-text, location-limit}
 
 -- the state after the name of the process, and after that of the start
 abbrev after-process : List ℕ → State → State
@@ -134,6 +134,9 @@ formed-of s names t h = record {
   target = λ i l. h .read .edge i l .target;
   direction = λ i l. h .read .edge i l .direction;
   label = λ i l. (h .read .edge i l .from-one, h .read .edge i l .declared);
+  assigned = λ i k l. h .read .edge i l .assigned k;
+  used = λ c a b q. let (i, l, e) = h .read .used (c - 1) q in
+      (i, l, omega arith);
 }
 
 -- two names in different slots differ
@@ -165,7 +168,7 @@ promised s names t h =
       };
     }
 
-abbrev Is-accepted : Answer → Type 0
+abbrev Is-accepted : Verdict → Type 0
 Is-accepted Accepted = Unit {0}
 Is-accepted (Refused f) = ⊥
 

@@ -5,7 +5,6 @@ use Prim.Native.Nat.{ℕ, _-_, _≤_}
 use native.Mathlib.Omega.{arith}
 use lib.Dec.{eqb, ltb}
 use borrow.Author.Tests.{eqb-true, ltb-false}
-use Rattle.reader_record.specs.Limits.{largest-name}
 use Rattle.reader_tokens.specs.Kinds as kinds
 use Rattle.reader_tokens.specs.Tokens.{token-at}
 use Rattle.reader_tokens.specs.Spans.{Spans, name-spans}
@@ -16,6 +15,7 @@ use Rattle.reader_parts.specs.declared.NameRead.{NameRead}
 use Rattle.reader_parts.specs.Status.{take, name-of, name-next}
 use Rattle.reader_formed.specs.Promise.{Within}
 use Rattle.reader_formed.specs.Cases.{split}
+use Rattle.limits.specs.Limits.{largest-name}
 
 -- the reader has refused nothing yet
 abbrev pub Going : Status → Type 0

@@ -6,7 +6,6 @@ use Prim.Native.Nat.{ℕ, zero, suc, _+_, _<_}
 use lib.Dec.{leb}
 use lib.ListN.{set}
 use borrow.Author.Tests.{leb-false}
-use Rattle.reader_record.specs.Limits.{channel-limit, clock-limit, location-limit, edge-limit}
 use Rattle.reader_parts.specs.Slots.{first-channel, first-clock, first-location}
 use Rattle.reader_tokens.specs.Kinds as kinds
 use Rattle.reader_record.specs.declared.Name.{Name}
@@ -19,18 +18,19 @@ use Rattle.reader_constraints.specs.Constraints.{invariant}
 use Rattle.reader_constraints.specs.declared.ConstraintRead.{ConstraintRead}
 use Rattle.reader_edges.specs.Edges.{edge-next}
 use Rattle.reader_edges.specs.declared.EdgeRead.{EdgeRead}
-use Rattle.reader_lists.specs.declared.Item.{Item}
-use Rattle.reader_lists.specs.declared.Item.the-variants.{Channel, Clock, Location, Edge}
-use Rattle.reader_lists.specs.declared.State.{State}
-use Rattle.reader_lists.specs.State.{next, with-location}
-use Rattle.reader_lists.specs.Lists.{stopped, channel, clock, location, edge, one-item, limit, items-from, items}
+use Rattle.reader_lists.specs.Lists.{Item}
+use Rattle.reader_lists.specs.Lists.Item.{Channel, Clock, Location, Edge}
+use Rattle.reader_lists.specs.State.{State}
+use Rattle.reader_lists.specs.State.{next-token, with-location}
+use Rattle.reader_lists.specs.Lists.{stopped, channel-item, clock-item, location-item, edge-item, one-item, limit, items-from, items}
 use Rattle.reader_formed.specs.Cases.{split, either}
 use Rattle.reader_formed.specs.Going.{Going, take-going}
 use Rattle.reader_formed.specs.Declared.{Declared, declared}
 use Rattle.reader_formed.specs.Slots.{Known}
-use Rattle.reader_formed.specs.Comparisons.{Formed-comparisons, invariant-read}
+use Rattle.reader_formed.specs.Comparisons.{Formed-comparisons, optional-read}
 use Rattle.reader_formed.specs.Edges.{Edge-read, edge-read}
 use Rattle.reader_formed.specs.State.{So-far, Fresh, channel-more, clock-more, clocks-stay, location-more, edge-more}
+use Rattle.limits.specs.Limits.{channel-limit, clock-limit, location-limit, edge-limit}
 
 -- what holds of a state
 abbrev pub Good : ℕ → List ℕ → State → Type 0
@@ -48,8 +48,8 @@ module _ (s : List ℕ) where
   pub same-state : {a : ℕ} {r : State} → Keeps a a s r r
   same-state = record { going = λ g. g; good = λ g h. h }
 
-  pub next-keeps : {a : ℕ} (r : State) (k : ℕ) → Keeps a a s r (next s r k)
-  unfolding next
+  pub next-keeps : {a : ℕ} (r : State) (k : ℕ) → Keeps a a s r (next-token s r k)
+  unfolding next-token
   next-keeps r k = record { going = λ g. take-going s (r .status) k g; good = λ g h. h }
 
   -- a state that differs in its status alone
@@ -110,22 +110,22 @@ module _ (s : List ℕ) where
       good = λ g h. let x = named r first count limit g in rw (x .stored) (more h (fresh _ _ _ _ _ _ x) (x .room));
     }
 
-    channel-keeps : Keeps a a s r (channel s r)
-    unfolding channel
+    channel-keeps : Keeps a a s r (channel-item s r)
+    unfolding channel-item
     channel-keeps =
         let n : ℕ = r .text .«channel_count» in
         unless-full (leb channel-limit n) _ (λ g. named r first-channel n channel-limit g .before)
         (name-keeps first-channel n channel-limit _ (λ h f l. channel-more a s (r .names) (r .text) h _ f l))
 
-    clock-keeps : Keeps a a s r (clock s r)
-    unfolding clock
+    clock-keeps : Keeps a a s r (clock-item s r)
+    unfolding clock-item
     clock-keeps =
         let n : ℕ = r .text .«clock_count» in
         unless-full (leb clock-limit n) _ (λ g. named r first-clock n clock-limit g .before)
         (name-keeps first-clock n clock-limit _ (λ h f l. clock-more a s (r .names) (r .text) h _ f l))
 
-    location-keeps : Keeps a a s r (location s r)
-    unfolding location
+    location-keeps : Keeps a a s r (location-item s r)
+    unfolding location-item
     location-keeps =
         unless-full (leb location-limit n) _ (λ g. named r first-location n location-limit g .before) (record {
           going = λ g. place g .before;
@@ -147,16 +147,16 @@ module _ (s : List ℕ) where
         u = with-location (r .text) (d .name) (i .constraint)
 
         place : Going (i .status) → Named r first-location n location-limit
-        place g = named r first-location n location-limit (invariant-read s (d .status) (d .names) g .before)
+        place g = named r first-location n location-limit (optional-read kinds.opens true kinds.closes s (d .status) (d .names) g .before)
 
         formed : Going (i .status) → Good a s r → Formed-comparisons (r .text .«clock_count») true (i .constraint)
         formed g h =
             let x = place g in
-            invariant-read s (d .status) (d .names) g .formed (r .text .«clock_count»)
+            optional-read kinds.opens true kinds.closes s (d .status) (d .names) g .formed (r .text .«clock_count»)
             (rw (x .stored) (clocks-stay a s (r .names) (r .text) h _ (fresh _ _ _ _ _ _ x) (x .room)))
 
-    edge-keeps : Keeps a a s r (edge s r)
-    unfolding edge
+    edge-keeps : Keeps a a s r (edge-item s r)
+    unfolding edge-item
     edge-keeps =
         split (λ (q : State). Keeps a a s r q) full (λ _. stopped-keeps r _ (λ g. new g .before))
         (λ room. record {
@@ -164,7 +164,7 @@ module _ (s : List ℕ) where
           good = λ g h. let x = new g in
               edge-more a s (r .names) (r .text) h _ _ _ (x .label) (x .known _ (channels-known h))
               (x .guard _ (clocks-known h)) (x .source _ (locations-known h)) (x .target _ (locations-known h))
-              (x .right) (leb-false edge-limit (r .text .«edge_count») room);
+              (x .assigned _ (clocks-known h)) (x .right) (leb-false edge-limit (r .text .«edge_count») room);
         })
       where
         full : Bool

@@ -4,11 +4,11 @@ use mathlib.Core.Bool.{false}
 use mathlib.Core.List.{List}
 use Prim.Native.Nat.{ℕ, _+_, _≤_, _<_}
 use lib.ListN.{length, getD, drop}
-use Rattle.reader_record.specs.Limits.{largest-name}
 use Rattle.reader_tokens.specs.Scan.{same}
 use Rattle.reader_record.specs.declared.Name.{Name}
 use Rattle.reader_record.specs.declared.Text.{Text}
 use Rattle.reader_record.specs.Record.{no-name, no-channel, no-location}
+use Rattle.limits.specs.Limits.{largest-name}
 
 -- the names of channel c, clock c and location l, each from 0
 abbrev pub channel-name : Text → ℕ → Name

@@ -1,44 +1,37 @@
 -- What holds before anything is read.
 use mathlib.Core.Path.{_≡_, refl}
-use mathlib.Core.Bool.{Bool, true, false}
 use mathlib.Core.List.{List}
 use Prim.Native.Nat.{ℕ, _+_, _<_}
 use native.Mathlib.Omega.{arith}
-use lib.Dec.{ltb}
-use lib.ListN.{replicate, length-replicate, getD-replicate, List·getD-eq-default}
-use borrow.Author.Tests.{ltb-true, ltb-false}
-use Rattle.reader_record.specs.Limits.{channel-limit, clock-limit, location-limit}
+use lib.ListN.{replicate}
 use Rattle.reader_parts.specs.Slots.{first-channel, first-clock, first-location, name-slots}
 use Rattle.reader_record.specs.declared.Name.{Name}
-use Rattle.reader_record.specs.Record.{no-name}
+use Rattle.reader_record.specs.declared.Channel.{Channel}
+use Rattle.reader_record.specs.Record.{no-name, no-channel}
 use Rattle.reader_lists.specs.State.{no-text}
 use Rattle.reader.specs.Reading.{start}
-use Rattle.reader_formed.specs.Declared.{slot}
+use Rattle.reader_formed.specs.Cases.{blank}
 use Rattle.reader_formed.specs.Slots.{Kind, Differ}
 use Rattle.reader_formed.specs.Lists.{Good}
-
-empty-slot : (n i : ℕ) → slot (replicate n no-name) i ≡ no-name
-empty-slot n i = by (ltb i n) refl
-  where
-    by : (b : Bool) → ltb i n ≡ b → slot (replicate n no-name) i ≡ no-name
-    by true e = getD-replicate n i no-name no-name (ltb-true i n e)
-    by false e =
-        List·getD-eq-default (replicate n no-name) no-name (omega (arith, length-replicate n no-name, ltb-false i n e))
+use Rattle.limits.specs.Limits.{channel-limit, clock-limit, location-limit}
 
 empty-kind : (s : List ℕ) (n first limit : ℕ) (named : ℕ → Name) → Kind s (replicate n no-name) first limit 0 named
 empty-kind s n first limit named = record {
   few = omega arith;
   filled = λ i h. absurd (omega arith);
-  empty = λ i l h. rw (empty-slot n (first + i));
+  empty = λ i l h. rw (blank n (first + i) no-name);
   within = λ i h. absurd (omega arith);
 }
 
 none-differ : (s : List ℕ) (n : ℕ) → Differ s (replicate n no-name)
 unfolding Differ
-none-differ s n i j d h = absurd (none (rw (empty-slot n i) at h))
+none-differ s n i j d h = absurd (none (rw (blank n i no-name) at h))
   where
     none : 0 < 0 → ⊥
     none z = omega arith
+
+ap-direction : {c d : Channel} → c ≡ d → c .direction ≡ d .direction
+ap-direction e = rw e
 
 pub start-good : (s : List ℕ) → Good 0 s start
 unfolding start no-text
@@ -59,5 +52,6 @@ start-good s = record {
     init = omega arith;
     invariant = λ l h. absurd (omega arith);
     edge = λ i h. absurd (omega arith);
+    used = λ c h. absurd (h (ap-direction (blank channel-limit c no-channel)));
   };
 }

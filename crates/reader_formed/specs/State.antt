@@ -7,7 +7,6 @@ use native.Mathlib.Omega.{arith}
 use lib.Dec.{T}
 use lib.ListN.{length, getD, set, length-set}
 use lib.Seq.{getD-set-same, getD-set-other}
-use Rattle.reader_record.specs.Limits.{channel-limit, clock-limit, location-limit, edge-limit}
 use Rattle.reader_parts.specs.Slots.{process-slot, first-channel, first-clock, first-location, name-slots}
 use Rattle.reader_record.specs.declared.Name.{Name}
 use Rattle.reader_record.specs.declared.Channel.{Channel}
@@ -26,7 +25,8 @@ use Rattle.reader_formed.specs.Cases.{stored}
 use Rattle.reader_formed.specs.Declared.{slot}
 use Rattle.reader_formed.specs.Slots.{Kind, Known, Differ, one-more, elsewhere, renamed, differ-more}
 use Rattle.reader_formed.specs.Comparisons.{Formed-comparisons}
-use Rattle.reader_formed.specs.Edges.{direction-at, label-channel, label-agrees, still-agrees}
+use Rattle.reader_formed.specs.Edges.{Assigned, direction-at, label-channel, label-agrees, still-agrees}
+use Rattle.limits.specs.Limits.{channel-limit, clock-limit, location-limit, edge-limit}
 
 -- an edge of a text with so many clocks and locations, and with the first `count` of these channels
 pub record Formed-edge (clocks locations count : ℕ) (channels : List Channel) (e : Edge) : Type 0 where
@@ -36,8 +36,13 @@ pub record Formed-edge (clocks locations count : ℕ) (channels : List Channel) 
   pub direction : T (agrees (e .label) (direction-at channels (channel (e .label) - 1)))
   pub from-one : 0 < channel (e .label)
   pub declared : channel (e .label) ≤ count
+  pub assigned : Assigned clocks (e .resets)
 
--- the names: 52 slots, all names in them differ, and those of each kind are the record's
+-- channel k, from 0, is the label of an edge
+abbrev pub Has-edge : Text → ℕ → Type 0
+Has-edge t k = (i : ℕ) × (i < t .«edge_count») × (channel (getD (t .edges) i no-edge .label) ≡ k + 1)
+
+-- the names: all slots, all names in them differ, and those of each kind are the record's
 pub record Names-so-far (s : List ℕ) (names : List Name) (t : Text) : Type 0 where
   pub size : length names ≡ name-slots
   pub differ : Differ s names
@@ -60,6 +65,7 @@ pub record Text-so-far (chosen : ℕ) (t : Text) : Type 0 where
       (i : ℕ) → i < t .«edge_count»
       → Formed-edge (t .«clock_count») (t .«location_count») (t .«channel_count») (t .channels)
       (getD (t .edges) i no-edge)
+  pub used : (k : ℕ) → (direction-at (t .channels) k ≡ Unused → ⊥) → Has-edge t k
 
 pub record So-far (chosen : ℕ) (s : List ℕ) (names : List Name) (t : Text) : Type 0 where
   pub named : Names-so-far s names t
@@ -130,7 +136,13 @@ module _ (chosen : ℕ) (s : List ℕ) (names : List Name) (t : Text) (h : So-fa
                   (λ _. e .direction);
               from-one = e .from-one;
               declared = omega (arith, e .declared);
+              assigned = e .assigned;
             };
+        used = λ k. stored (λ (c : Channel). (c .direction ≡ Unused → ⊥) → Has-edge t k)
+            (t .channels) (t .«channel_count») k new no-channel
+            (omega (arith, h .read .channels))
+            (λ _ q. absurd (q refl))
+            (λ _. h .read .used k);
       };
       named = record {
         size = size-at (first-channel + t .«channel_count»);
@@ -176,7 +188,9 @@ module _ (chosen : ℕ) (s : List ℕ) (names : List Name) (t : Text) (h : So-fa
               direction = e .direction;
               from-one = e .from-one;
               declared = e .declared;
+              assigned = λ k q. omega (arith, e .assigned k q);
             };
+        used = h .read .used;
       };
       named = record {
         size = size-at (first-clock + t .«clock_count»);
@@ -225,7 +239,9 @@ module _ (chosen : ℕ) (s : List ℕ) (names : List Name) (t : Text) (h : So-fa
               direction = e .direction;
               from-one = e .from-one;
               declared = e .declared;
+              assigned = e .assigned;
             };
+        used = h .read .used;
       };
       named = record {
         size = size-at (first-location + t .«location_count»);
@@ -269,6 +285,7 @@ init-chosen s names t i l h = record {
     init = omega arith;
     invariant = h .read .invariant;
     edge = h .read .edge;
+    used = h .read .used;
   };
 }
 
@@ -305,12 +322,17 @@ module _
         (λ _. g .direction);
     from-one = g .from-one;
     declared = g .declared;
+    assigned = g .assigned;
   }
+
+  label-at : {f g : Edge} → f ≡ g → channel (f .label) ≡ channel (g .label)
+  label-at q = rw q
 
   module _
       (same : e .label ≡ label-of input k) (below : k < t .«channel_count»)
       (guard : Formed-comparisons (t .«clock_count») false (e .guard))
-      (source : e .source < t .«location_count») (target : e .target < t .«location_count») where
+      (source : e .source < t .«location_count») (target : e .target < t .«location_count»)
+      (assigned : Assigned (t .«clock_count») (e .resets)) where
     number : channel (e .label) ≡ k + 1
     number = rw same (label-channel input k)
 
@@ -328,12 +350,27 @@ module _
           (λ q. absurd (q (omega (arith, number))));
       from-one = omega (arith, number);
       declared = omega (arith, number);
+      assigned = assigned;
     }
+
+    -- the label of an edge so far is that of an edge with one more
+    still-used : (j : ℕ) → t .«edge_count» < edge-limit → Has-edge t j → Has-edge (with-edge t e k input) j
+    unfolding with-edge
+    still-used j room (i, l, q) =
+        (i, omega arith, label-at (getD-set-other (t .edges) (t .«edge_count») i e no-edge (λ z. omega arith)) ∙ q)
+
+    newly-used : t .«edge_count» < edge-limit → Has-edge (with-edge t e k input) k
+    unfolding with-edge
+    newly-used room = (
+      t .«edge_count»,
+      omega arith,
+      label-at (getD-set-same (t .edges) (t .«edge_count») e no-edge (omega (arith, h .read .edges))) ∙ number,
+    )
 
     pub edge-more :
         fits (direction-at (t .channels) k) input ≡ true → t .«edge_count» < edge-limit
         → So-far chosen s names (with-edge t e k input)
-    unfolding with-edge
+    unfolding with-edge marked
     edge-more fit room = record {
       named = record {
         size = h .named .size;
@@ -356,6 +393,11 @@ module _
             (omega (arith, h .read .edges))
             (λ _. new-formed)
             (λ q. marked-agrees (getD (t .edges) i no-edge) low fit (h .read .edge i (omega arith)));
+        used = λ j. stored (λ (c : Channel). (c .direction ≡ Unused → ⊥) → Has-edge (with-edge t e k input) j)
+            (t .channels) k j _ no-channel
+            (omega (arith, h .read .channels))
+            (λ q _. rw q (newly-used room))
+            (λ _ q. still-used j room (h .read .used j q));
       };
     }
       where

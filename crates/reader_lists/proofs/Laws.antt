@@ -12,13 +12,13 @@ use Rattle.reader_parts.specs.declared.Status.{Status}
 use Rattle.reader_parts.specs.Status.{ahead}
 use Rattle.reader_parts.specs.Names.{declare}
 use Rattle.reader_parts.specs.Slots.{name-slots}
-use Rattle.reader_lists.specs.declared.Item.{Item}
+use Rattle.reader_lists.specs.Lists.{Item}
 use Rattle.reader_lists.specs.declared.Named.{Named}
 use Rattle.reader_lists.specs.declared.Named.the-variants.{Channel, Clock, Location}
-use Rattle.reader_lists.specs.declared.State.{State}
+use Rattle.reader_lists.specs.State.{State}
 use Rattle.reader_lists.specs.declared.Turn.{Turn}
-use Rattle.reader_lists.specs.State.{next}
-use Rattle.reader_lists.specs.Lists.{channel, clock, location, stopped, one-item, limit, items-from}
+use Rattle.reader_lists.specs.State.{next-token}
+use Rattle.reader_lists.specs.Lists.{channel-item, clock-item, location-item, stopped, one-item, limit, items-from}
 use Rattle.reader_lists.specs.Turns.{item, first-slot, count, state-of, after-item}
 
 suc-room : (room : ℕ) → eqb (suc room) 0 ≡ false
@@ -28,7 +28,7 @@ module _ (k : Item) (s : List ℕ) (r : State) {q : State} (e : q ≡ one-item k
   after-last :
       (room : ℕ) → after-item s (q .status) room .more ≡ false →
       items-from room k s r ≡ state-of (after-item s (q .status) room .status) (q .names) (q .text)
-  unfolding items-from after-item next
+  unfolding items-from after-item next-token
   after-last zero h = sym e
   after-last (suc room) h = go (ahead s (q .status) kinds.comma) refl where
     go : (b : Bool) → ahead s (q .status) kinds.comma ≡ b →
@@ -40,7 +40,7 @@ module _ (k : Item) (s : List ℕ) (r : State) {q : State} (e : q ≡ one-item k
       (room : ℕ) → after-item s (q .status) room .more ≡ true →
       items-from room k s r
       ≡ items-from (room - 1) k s (state-of (after-item s (q .status) room .status) (q .names) (q .text))
-  unfolding items-from after-item next
+  unfolding items-from after-item next-token
   after-more zero h = cc
   after-more (suc room) h = go (ahead s (q .status) kinds.comma) refl where
     one : suc room - 1 ≡ room
@@ -96,7 +96,7 @@ pub one-over :
     (k : Named) (s : List ℕ) (r : State) → leb (limit (item k)) (count-in k (r .text)) ≡ true →
     let d = declare s (r .status) (r .names) (first-slot k) (count-in k (r .text)) (limit (item k)) in
     stopped r (d .status) ≡ one-item (item k) s r
-unfolding channel clock location
+unfolding channel-item clock-item location-item
 one-over Channel s r h = rw h
 one-over Clock s r h = rw h
 one-over Location s r h = rw h

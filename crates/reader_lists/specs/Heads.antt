@@ -4,7 +4,6 @@ use mathlib.Core.Path.{_≡_}
 use mathlib.Core.List.{List}
 use Prim.Native.Nat.{ℕ}
 use lib.ListN.{replicate}
-use Rattle.reader_record.specs.Limits.{edge-limit}
 use Rattle.reader_record.specs.declared.Name.{Name}
 use Rattle.reader_record.specs.declared.Channel.{Channel}
 use Rattle.reader_record.specs.declared.Edge.{Edge}
@@ -13,9 +12,10 @@ use Rattle.reader_parts.specs.declared.Status.{Status}
 use Rattle.reader_lists.specs.declared.Head.{Head}
 use Rattle.reader_lists.specs.declared.HeadRead.{HeadRead}
 use Rattle.reader_lists.specs.declared.EdgesRead.{EdgesRead}
-use Rattle.reader_lists.specs.declared.State.{State}
-use Rattle.reader_lists.specs.State.{no-edge}
+use Rattle.reader_lists.specs.State.{State}
+use Rattle.reader_lists.specs.State.{blank-edge}
 use Rattle.reader_lists.specs.Turns.{state-of}
+use Rattle.limits.specs.Limits.{edge-limit}
 
 -- the record with this head, starting location, edges and number of edges
 abbrev pub whole : Head → ℕ → List Edge → ℕ → Text
@@ -44,7 +44,7 @@ with-channels h channels = record {
 
 -- the edges of a record of which nothing is read
 unfoldable pub no-edges : List Edge
-no-edges = replicate edge-limit no-edge
+no-edges = replicate edge-limit blank-edge
 
 -- how far the reader has come, the declared names and the head, as one
 abbrev pub head-read : Status → List Name → Head → HeadRead

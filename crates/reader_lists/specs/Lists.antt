@@ -4,17 +4,15 @@ use mathlib.Core.List.{List}
 use Prim.Native.Nat.{ℕ, zero, suc}
 use lib.Dec.{leb}
 use Rattle.reader_tokens.specs.Kinds as kinds
-use Rattle.reader_record.specs.Limits.{channel-limit, clock-limit, location-limit, edge-limit}
 use Rattle.reader_parts.specs.declared.Status.{Status}
 use Rattle.reader_parts.specs.Status.{ahead}
 use Rattle.reader_parts.specs.Names.{declare}
 use Rattle.reader_parts.specs.Slots.{first-channel, first-clock, first-location}
 use Rattle.reader_constraints.specs.Constraints.{invariant}
 use Rattle.reader_edges.specs.Edges.{edge-next}
-use Rattle.reader_lists.specs.declared.Item.{Item}
-use Rattle.reader_lists.specs.declared.Item.the-variants.{Channel, Clock, Location, Edge}
-use Rattle.reader_lists.specs.declared.State.{State}
-use Rattle.reader_lists.specs.State.{next, with-channel, with-clock, with-location, with-edge}
+use Rattle.reader_lists.specs.State.{State}
+use Rattle.reader_lists.specs.State.{next-token, with-channel, with-clock, with-location, with-edge}
+use Rattle.limits.specs.Limits.{channel-limit, clock-limit, location-limit, edge-limit}
 
 -- the reader has come to st, and the record stays
 abbrev pub stopped : State → Status → State
@@ -23,24 +21,24 @@ stopped r st = record { status = st; names = r .names; text = r .text }
 -- one item more, of each kind: "first item over a count limit, at its first name" is refused, and the record stays
 
 -- "`broadcast chan` names `;`": a name
-unfoldable pub channel : List ℕ → State → State
-channel s r =
+unfoldable pub channel-item : List ℕ → State → State
+channel-item s r =
     let n = r .text .«channel_count» in
     let d = declare s (r .status) (r .names) first-channel n channel-limit in
     let q : State = record { status = d .status; names = d .names; text = with-channel (r .text) (d .name) } in
     cond (leb channel-limit n) (stopped r (d .status)) q
 
 -- "`clock` names `;`": a name
-unfoldable pub clock : List ℕ → State → State
-clock s r =
+unfoldable pub clock-item : List ℕ → State → State
+clock-item s r =
     let n = r .text .«clock_count» in
     let d = declare s (r .status) (r .names) first-clock n clock-limit in
     let q : State = record { status = d .status; names = d .names; text = with-clock (r .text) (d .name) } in
     cond (leb clock-limit n) (stopped r (d .status)) q
 
 -- "`state` locations `;` where a location is a name, optionally `{` invariant `}`": a location
-unfoldable pub location : List ℕ → State → State
-location s r =
+unfoldable pub location-item : List ℕ → State → State
+location-item s r =
     let n = r .text .«location_count» in
     let d = declare s (r .status) (r .names) first-location n location-limit in
     let i = invariant s (d .status) (d .names) in
@@ -49,19 +47,26 @@ location s r =
     cond (leb location-limit n) (stopped r (d .status)) q
 
 -- "`trans` edges `;`": an edge
-unfoldable pub edge : List ℕ → State → State
-edge s r =
+unfoldable pub edge-item : List ℕ → State → State
+edge-item s r =
     let full = leb edge-limit (r .text .«edge_count») in
     let e = edge-next s (r .status) (r .names) (r .text .channels) full in
     let u = with-edge (r .text) (e .edge) (e .channel) (e .input) in
     let q : State = record { status = e .status; names = r .names; text = u } in
     cond full (stopped r (e .status)) q
 
+-- the kinds of item that a list of the text has
+pub data Item : Type 0 where
+  Channel : Item
+  Clock : Item
+  Location : Item
+  Edge : Item
+
 abbrev pub one-item : Item → List ℕ → State → State
-one-item Channel = channel
-one-item Clock = clock
-one-item Location = location
-one-item Edge = edge
+one-item Channel = channel-item
+one-item Clock = clock-item
+one-item Location = location-item
+one-item Edge = edge-item
 
 -- how many items of a kind a text has at most
 abbrev pub limit : Item → ℕ
@@ -75,8 +80,8 @@ unfoldable pub items-from : ℕ → Item → List ℕ → State → State
 items-from zero k s r = one-item k s r
 items-from (suc room) k s r =
     let q = one-item k s r in
-    let more = items-from room k s (next s q kinds.comma) in
-    cond (ahead s (q .status) kinds.comma) more (next s q kinds.semicolon)
+    let more = items-from room k s (next-token s q kinds.comma) in
+    cond (ahead s (q .status) kinds.comma) more (next-token s q kinds.semicolon)
 
 unfoldable pub items : Item → List ℕ → State → State
 items k s r = items-from (limit k) k s r

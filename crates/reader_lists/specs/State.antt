@@ -3,7 +3,6 @@ use mathlib.Core.Bool.{Bool, cond}
 use mathlib.Core.List.{List}
 use Prim.Native.Nat.{ℕ, _+_}
 use lib.ListN.{getD, set, replicate}
-use Rattle.reader_record.specs.Limits.{channel-limit, clock-limit, location-limit, edge-limit}
 use Rattle.reader_record.specs.Record.{no-name, no-channel}
 use Rattle.reader_record.specs.declared.Name.{Name}
 use Rattle.reader_record.specs.declared.Channel.{Channel}
@@ -13,15 +12,21 @@ use Rattle.reader_record.specs.declared.Label.the-variants as label
 use Rattle.reader_record.specs.declared.Constraint.{Constraint}
 use Rattle.reader_record.specs.declared.Edge.{Edge}
 use Rattle.reader_record.specs.declared.Text.{Text}
+use Rattle.reader_parts.specs.declared.Status.{Status}
 use Rattle.reader_parts.specs.Status.{take}
-use Rattle.reader_constraints.specs.Constraints.{no-constraint}
+use Rattle.reader_constraints.specs.Constraints.{blank-constraint}
 use Rattle.reader_edges.specs.Assigns.{no-resets}
-use Rattle.reader_lists.specs.declared.State.{State}
+use Rattle.limits.specs.Limits.{channel-limit, clock-limit, location-limit, edge-limit}
+
+pub record State : Type 0 where
+  pub status : Status
+  pub names : List Name
+  pub text : Text
 
 -- no edge, and as long as the code's arrays (the `no-edge` of reader_record stands past the end of a list, where an
 -- array inside is empty)
-unfoldable pub no-edge : Edge
-no-edge = record { source = 0; target = 0; guard = no-constraint; label = label.Input 0; resets = no-resets }
+unfoldable pub blank-edge : Edge
+blank-edge = record { source = 0; target = 0; guard = blank-constraint; label = label.Input 0; resets = no-resets }
 
 -- a record of which nothing is read; also what stands beside a refusal
 unfoldable pub no-text : Text
@@ -30,16 +35,16 @@ no-text = record {
   «channel_count» = 0;
   clocks = replicate clock-limit no-name;
   «clock_count» = 0;
-  locations = replicate location-limit (record { name = no-name; invariant = no-constraint });
+  locations = replicate location-limit (record { name = no-name; invariant = blank-constraint });
   «location_count» = 0;
   init = 0;
-  edges = replicate edge-limit no-edge;
+  edges = replicate edge-limit blank-edge;
   «edge_count» = 0;
 }
 
 -- the next token, which has to be of the kind k
-unfoldable pub next : List ℕ → State → ℕ → State
-next s r k = record { status = take s (r .status) k; names = r .names; text = r .text }
+unfoldable pub next-token : List ℕ → State → ℕ → State
+next-token s r k = record { status = take s (r .status) k; names = r .names; text = r .text }
 
 -- one channel more, which no edge names yet
 unfoldable pub with-channel : Text → Name → Text
@@ -84,13 +89,13 @@ with-location t n c = record {
 }
 
 -- the direction that a mark says
-unfoldable pub direction-of : Bool → Direction
-direction-of input = cond input direction.Input direction.Output
+unfoldable pub direction-by : Bool → Direction
+direction-by input = cond input direction.Input direction.Output
 
 -- channel k of the list has the direction that its mark says
 unfoldable pub marked : List Channel → ℕ → Bool → List Channel
 marked channels k input =
-    set channels k (record { name = getD channels k no-channel .name; direction = direction-of input })
+    set channels k (record { name = getD channels k no-channel .name; direction = direction-by input })
 
 -- one edge more, and the direction of its channel
 unfoldable pub with-edge : Text → Edge → ℕ → Bool → Text

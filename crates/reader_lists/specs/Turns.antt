@@ -12,18 +12,17 @@ use Rattle.reader_record.specs.declared.Text.{Text}
 use Rattle.reader_parts.specs.declared.Status.{Status}
 use Rattle.reader_parts.specs.Status.{ahead, take}
 use Rattle.reader_parts.specs.Slots.{first-channel, first-clock, first-location}
-use Rattle.reader_lists.specs.declared.Item.{Item}
-use Rattle.reader_lists.specs.declared.Item.the-variants as item-kind
+use Rattle.reader_lists.specs.Lists.{Item}
 use Rattle.reader_lists.specs.declared.Named.{Named}
 use Rattle.reader_lists.specs.declared.Named.the-variants.{Channel, Clock, Location}
-use Rattle.reader_lists.specs.declared.State.{State}
+use Rattle.reader_lists.specs.State.{State}
 use Rattle.reader_lists.specs.declared.Turn.{Turn}
 
 -- the items that declare a name are items
 abbrev pub item : Named → Item
-item Channel = item-kind.Channel
-item Clock = item-kind.Clock
-item Location = item-kind.Location
+item Channel = Item.Channel
+item Clock = Item.Clock
+item Location = Item.Location
 
 -- the first of the slots where their names are
 abbrev pub first-slot : Named → ℕ

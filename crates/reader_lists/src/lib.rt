@@ -1,38 +1,30 @@
-// The lists of a text: channels, clocks, locations and edges, joined by commas.
+// Reads the lists of a contract text: channels, clocks, locations and edges, joined by commas.
 ghost use mathlib.Core.Path.{_≡_};
 ghost use mathlib.Core.Bool.{true, false};
 ghost use Prim.Native.Nat.{_+_, _≤_, _<_};
 ghost use lib.ListN.{length};
-ghost use Rattle.reader_record.specs.Limits.{largest-text, channel-limit};
-ghost use Rattle.reader_lists.specs.State.{no-edge, no-text, direction-of, marked};
-ghost use Rattle.reader_lists.specs.Lists.{limit, items};
+ghost use Rattle.reader_lists.specs.State.{blank-edge, no-text, direction-by, marked};
+ghost use Rattle.reader_lists.specs.Lists.{Item, limit, items};
 ghost use Rattle.reader_lists.specs.Turns.{item, first-slot, count, unused, after-item};
 ghost use Rattle.reader_lists.specs.Heads.{whole, no-edges, head-read, before-edges, Reads-head, Reads-edges};
+use limits::CHANNEL_LIMIT;
+use limits::CLOCK_LIMIT;
+use limits::EDGE_LIMIT;
+use limits::LOCATION_LIMIT;
 use reader_parts::FIRST_CHANNEL;
 use reader_parts::FIRST_CLOCK;
 use reader_parts::FIRST_LOCATION;
 use reader_parts::NAME_SLOTS;
 use reader_parts::Status;
-use reader_record::CHANNEL_LIMIT;
-use reader_record::CLOCK_LIMIT;
 use reader_record::Channel;
 use reader_record::Constraint;
 use reader_record::Direction;
-use reader_record::EDGE_LIMIT;
 use reader_record::Edge;
-use reader_record::LOCATION_LIMIT;
 use reader_record::Label;
 use reader_record::Location;
 use reader_record::Name;
 use reader_record::Text;
-
-// The kinds of item that a list of the text has. Only the definitions speak of it.
-pub enum Item {
-    Channel,
-    Clock,
-    Location,
-    Edge,
-}
+ghost use Rattle.limits.specs.Limits.{largest-text, channel-limit};
 
 // The kinds of item that declare a name.
 pub enum Named {
@@ -47,15 +39,8 @@ struct Turn {
     more: bool,
 }
 
-// What the reader has read: how far it has come, the declared names by their slots, and the record so far.
-// Only the definitions speak of it: the code has the record's head and its edges apart, so that no call copies both.
-pub struct State {
-    pub status: Status,
-    pub names: [Name; NAME_SLOTS],
-    pub text: Text,
-}
-
-// The record's head: what stands before its starting location and its edges.
+// The record's head: what stands before its starting location and its edges. The head and the edges are read apart, so
+// that no call copies both.
 pub struct Head {
     pub channels: [Channel; CHANNEL_LIMIT],
     pub channel_count: usize,
@@ -80,10 +65,10 @@ pub struct EdgesRead {
     pub count: usize,
 }
 
-fn no_edge() -> Edge
-    ensures { λ r. ⌜ r ≡ no-edge ⌝ }
+fn blank_edge() -> Edge
+    ensures { λ r. ⌜ r ≡ blank-edge ⌝ }
 {
-    let guard = reader_constraints::no_constraint();
+    let guard = reader_constraints::blank_constraint();
     let label = Label::Input(0);
     let resets = [false; CLOCK_LIMIT];
     Edge {
@@ -107,7 +92,7 @@ pub fn no_head() -> Head
     };
     let channels = [channel; CHANNEL_LIMIT];
     let clocks = [name; CLOCK_LIMIT];
-    let invariant = reader_constraints::no_constraint();
+    let invariant = reader_constraints::blank_constraint();
     let location = Location {
         name: name,
         invariant: invariant,
@@ -131,7 +116,7 @@ pub fn no_text() -> Text
     let channels = h.channels;
     let clocks = h.clocks;
     let locations = h.locations;
-    let edge = no_edge();
+    let edge = blank_edge();
     let edges = [edge; EDGE_LIMIT];
     Text {
         channels: channels,
@@ -150,7 +135,7 @@ pub fn no_text() -> Text
 pub fn no_edges(st: Status, channels: [Channel; CHANNEL_LIMIT]) -> EdgesRead
     ensures { λ r. ⌜ r ≡ before-edges st channels ⌝ }
 {
-    let edge = no_edge();
+    let edge = blank_edge();
     let edges = [edge; EDGE_LIMIT];
     EdgesRead {
         status: st,
@@ -160,8 +145,8 @@ pub fn no_edges(st: Status, channels: [Channel; CHANNEL_LIMIT]) -> EdgesRead
     }
 }
 
-fn direction_of(input: bool) -> Direction
-    ensures { λ r. ⌜ r ≡ direction-of input ⌝ }
+fn direction_by(input: bool) -> Direction
+    ensures { λ r. ⌜ r ≡ direction-by input ⌝ }
 {
     if input {
         return Direction::Input;
@@ -177,7 +162,7 @@ fn marked(channels: [Channel; CHANNEL_LIMIT], k: usize, input: bool) -> [Channel
     let mut all = channels;
     let c = all[k];
     let name = c.name;
-    let direction = direction_of(input);
+    let direction = direction_by(input);
     let channel = Channel {
         name: name,
         direction: direction,
@@ -323,7 +308,7 @@ pub fn edges(
 {
     let mut st = start;
     let mut channels = given;
-    let none = no_edge();
+    let none = blank_edge();
     let mut edges = [none; EDGE_LIMIT];
     let mut n: usize = 0;
     let mut room = EDGE_LIMIT;

@@ -1,5 +1,4 @@
--- The record of a text as 3,100 numbers, for callers that have no Rattle types. Items past those of the text are its
--- filling.
+-- The record of a text as numbers, for callers that have no Rattle types. Items past those of the text are its filling.
 use mathlib.Core.Bool.{false, cond}
 use mathlib.Core.List.{List, [], _∷_, _++_}
 use Prim.Native.Nat.{ℕ, zero, suc, _+_}
@@ -18,6 +17,7 @@ use Rattle.reader_record.specs.declared.Label.the-variants as label
 use Rattle.reader_record.specs.declared.Edge.{Edge}
 use Rattle.reader_record.specs.declared.Text.{Text}
 use Rattle.reader_record.specs.Record.{no-name, no-channel, no-location, comparison, edge, channel}
+use Rattle.limits.specs.Limits.{channel-limit, clock-limit, location-limit, edge-limit, comparison-limit}
 
 -- numbers written one after another from a place on; those past the end are dropped
 unfoldable pub put-at : List ℕ → ℕ → List ℕ → List ℕ
@@ -43,10 +43,10 @@ direction-number direction.Output = 2
 abbrev pub reset-number : Edge → ℕ → ℕ
 reset-number e k = cond (getD (e .resets) k false) 1 0
 
--- 1 for an input and 2 for an output
+-- the direction that the mark says
 unfoldable pub mark : Label → ℕ
-mark (label.Input c) = 1
-mark (label.Output c) = 2
+mark (label.Input c) = direction-number direction.Input
+mark (label.Output c) = direction-number direction.Output
 
 -- mark and channel
 abbrev pub label-numbers : Label → List ℕ
@@ -60,9 +60,9 @@ name-numbers n = n .place ∷ n .len ∷ []
 unfoldable pub comparison-numbers : Comparison → List ℕ
 comparison-numbers c = c .clock ∷ sign-number (c .sign) ∷ c .bound ∷ []
 
--- the number of comparisons, then four of them
+-- the number of comparisons, then all that there is room for
 unfoldable pub constraint-numbers : Constraint → List ℕ
-constraint-numbers g = g .count ∷ rows 4 (λ i. comparison-numbers (comparison g i))
+constraint-numbers g = g .count ∷ rows comparison-limit (λ i. comparison-numbers (comparison g i))
 
 -- the name, then the direction
 unfoldable pub channel-numbers : Channel → List ℕ
@@ -95,8 +95,8 @@ location-row t i = location-numbers (getD (t .locations) i no-location)
 abbrev pub edge-row : Text → ℕ → List ℕ
 edge-row t i = edge-numbers (edge t i)
 
--- the whole record: counts at 0, channels from 6, clocks from 54, locations from 60, edges from 540
+-- the whole record: counts, channels, clocks, locations and edges, from the places that Layout says
 unfoldable pub numbers : Text → ℕ → List ℕ
 numbers t states =
-    (((counts t states ++ rows 16 (channel-row t)) ++ rows 3 (clock-row t)) ++ rows 32 (location-row t)) ++
-    rows 128 (edge-row t)
+    (((counts t states ++ rows channel-limit (channel-row t)) ++ rows clock-limit (clock-row t)) ++ rows location-limit (location-row t)) ++
+    rows edge-limit (edge-row t)

@@ -1,14 +1,14 @@
 // The record of a text as numbers in a slice, for callers that have no Rattle types.
-use reader_record::CHANNEL_LIMIT;
-use reader_record::CLOCK_LIMIT;
-use reader_record::COMPARISON_LIMIT;
+use limits::CHANNEL_LIMIT;
+use limits::CLOCK_LIMIT;
+use limits::COMPARISON_LIMIT;
+use limits::EDGE_LIMIT;
+use limits::LOCATION_LIMIT;
 use reader_record::Channel;
 use reader_record::Comparison;
 use reader_record::Constraint;
 use reader_record::Direction;
-use reader_record::EDGE_LIMIT;
 use reader_record::Edge;
-use reader_record::LOCATION_LIMIT;
 use reader_record::Label;
 use reader_record::Location;
 use reader_record::Sign;
@@ -16,30 +16,54 @@ use reader_record::Text;
 ghost use mathlib.Core.Path.{_≡_};
 ghost use mathlib.Core.Bool.{cond};
 ghost use mathlib.Core.List.{[], _∷_};
-ghost use Prim.Native.Nat.{_≤_};
+ghost use Prim.Native.Nat.{_+_, _≤_};
+ghost use Rattle.limits.specs.Limits.{channel-limit, clock-limit, location-limit, edge-limit};
+ghost use Rattle.reader_numbers.specs.Layout.{label-size, comparison-size, constraint-size, channel-size};
+ghost use Rattle.reader_numbers.specs.Layout.{location-size, edge-size, record-size};
+ghost use Rattle.reader_numbers.specs.Layout.{channels-place, clocks-place, locations-place, edges-place};
 ghost use Rattle.reader_numbers.specs.Numbers.{put-at, rows, sign-number, direction-number, label-numbers};
 ghost use Rattle.reader_numbers.specs.Numbers.{comparison-numbers, constraint-numbers, channel-numbers};
 ghost use Rattle.reader_numbers.specs.Numbers.{location-numbers, edge-numbers, numbers};
 ghost use Rattle.reader_numbers.specs.Numbers.{channel-row, clock-row, location-row, edge-row};
 
-// Where each list starts, and how many numbers an item of it takes.
-const CHANNELS: usize = 6;
+// How many numbers each part takes. A name: place and length.
+const NAME_SIZE: usize = 2;
 
-const CHANNEL_NUMBERS: usize = 3;
+// A label: mark and channel.
+const LABEL_SIZE: usize = 2;
 
-const CLOCKS: usize = CHANNELS + CHANNEL_LIMIT * CHANNEL_NUMBERS;
+// A comparison: clock, sign and bound.
+const COMPARISON_SIZE: usize = 3;
 
-const CLOCK_NUMBERS: usize = 2;
+// A constraint: the number of comparisons, then all that there is room for.
+const CONSTRAINT_SIZE: usize = 1 + COMPARISON_LIMIT * COMPARISON_SIZE;
 
-const LOCATIONS: usize = CLOCKS + CLOCK_LIMIT * CLOCK_NUMBERS;
+// A channel: the name, then the direction.
+const CHANNEL_SIZE: usize = NAME_SIZE + 1;
 
-const LOCATION_NUMBERS: usize = 15;
+// A location: the name, then the invariant.
+const LOCATION_SIZE: usize = NAME_SIZE + CONSTRAINT_SIZE;
 
-const EDGES: usize = LOCATIONS + LOCATION_LIMIT * LOCATION_NUMBERS;
+// An edge: source and target, then from here on its label, its guard and its resets.
+const LABEL_PLACE: usize = 2;
 
-const EDGE_NUMBERS: usize = 20;
+const GUARD_PLACE: usize = LABEL_PLACE + LABEL_SIZE;
 
-const COMPARISON_NUMBERS: usize = 3;
+const RESETS_PLACE: usize = GUARD_PLACE + CONSTRAINT_SIZE;
+
+const EDGE_SIZE: usize = RESETS_PLACE + CLOCK_LIMIT;
+
+// A record: the numbers of channels, clocks and locations, the init location, the numbers of edges and states, then
+// from here on the channels, the clocks, the locations and the edges.
+const INIT_PLACE: usize = 3;
+
+const CHANNELS_PLACE: usize = INIT_PLACE + 3;
+
+const CLOCKS_PLACE: usize = CHANNELS_PLACE + CHANNEL_LIMIT * CHANNEL_SIZE;
+
+const LOCATIONS_PLACE: usize = CLOCKS_PLACE + CLOCK_LIMIT * NAME_SIZE;
+
+const EDGES_PLACE: usize = LOCATIONS_PLACE + LOCATION_LIMIT * LOCATION_SIZE;
 
 fn put(out: &mut [usize], at: usize, x: usize)
     ensures { λ _. ⌜ now (out .exit) ≡ put-at (now (out .entry)) at (x ∷ []) ⌝ }
@@ -51,7 +75,7 @@ fn put(out: &mut [usize], at: usize, x: usize)
 }
 
 fn put_two(out: &mut [usize], at: usize, x: usize, y: usize)
-    requires { ⌜ at ≤ 3200 ⌝ }
+    requires { ⌜ at + 2 ≤ record-size ⌝ }
     ensures { λ _. ⌜ now (out .exit) ≡ put-at (now (out .entry)) at (x ∷ y ∷ []) ⌝ }
 {
     put(out, at, x);
@@ -59,7 +83,7 @@ fn put_two(out: &mut [usize], at: usize, x: usize, y: usize)
 }
 
 fn put_three(out: &mut [usize], at: usize, x: usize, y: usize, z: usize)
-    requires { ⌜ at ≤ 3200 ⌝ }
+    requires { ⌜ at + 3 ≤ record-size ⌝ }
     ensures { λ _. ⌜ now (out .exit) ≡ put-at (now (out .entry)) at (x ∷ y ∷ z ∷ []) ⌝ }
 {
     put_two(out, at, x, y);
@@ -96,17 +120,23 @@ fn reset_number(b: bool) -> usize
 }
 
 fn write_label(out: &mut [usize], at: usize, l: Label)
-    requires { ⌜ at ≤ 3200 ⌝ }
+    requires { ⌜ at + label-size ≤ record-size ⌝ }
     ensures { λ _. ⌜ now (out .exit) ≡ put-at (now (out .entry)) at (label-numbers l) ⌝ }
 {
     match l {
-        Label::Input(c) => put_two(out, at, 1, c as usize),
-        Label::Output(c) => put_two(out, at, 2, c as usize),
+        Label::Input(c) => {
+            let d = Direction::Input;
+            put_two(out, at, direction_number(d), c as usize);
+        }
+        Label::Output(c) => {
+            let d = Direction::Output;
+            put_two(out, at, direction_number(d), c as usize);
+        }
     }
 }
 
 fn write_comparison(out: &mut [usize], at: usize, c: Comparison)
-    requires { ⌜ at ≤ 3200 ⌝ }
+    requires { ⌜ at + comparison-size ≤ record-size ⌝ }
     ensures { λ _. ⌜ now (out .exit) ≡ put-at (now (out .entry)) at (comparison-numbers c) ⌝ }
 {
     let s = c.sign;
@@ -114,22 +144,22 @@ fn write_comparison(out: &mut [usize], at: usize, c: Comparison)
     put_three(out, at, c.clock as usize, sign, c.bound as usize);
 }
 
-// The number of comparisons, then four of them.
+// The number of comparisons, then all that there is room for.
 fn write_constraint(out: &mut [usize], at: usize, g: Constraint)
-    requires { ⌜ at ≤ 3150 ⌝ }
+    requires { ⌜ at + constraint-size ≤ record-size ⌝ }
     ensures { λ _. ⌜ now (out .exit) ≡ put-at (now (out .entry)) at (constraint-numbers g) ⌝ }
 {
     put(out, at, g.count as usize);
     let mut i: usize = 0;
     while i < COMPARISON_LIMIT {
         let c = g.comparisons[i];
-        write_comparison(out, at + 1 + i * COMPARISON_NUMBERS, c);
+        write_comparison(out, at + 1 + i * COMPARISON_SIZE, c);
         i += 1;
     }
 }
 
 fn write_channel(out: &mut [usize], at: usize, k: Channel)
-    requires { ⌜ at ≤ 3200 ⌝ }
+    requires { ⌜ at + channel-size ≤ record-size ⌝ }
     ensures { λ _. ⌜ now (out .exit) ≡ put-at (now (out .entry)) at (channel-numbers k) ⌝ }
 {
     let name = k.name;
@@ -139,73 +169,73 @@ fn write_channel(out: &mut [usize], at: usize, k: Channel)
 }
 
 fn write_location(out: &mut [usize], at: usize, l: Location)
-    requires { ⌜ at ≤ 3100 ⌝ }
+    requires { ⌜ at + location-size ≤ record-size ⌝ }
     ensures { λ _. ⌜ now (out .exit) ≡ put-at (now (out .entry)) at (location-numbers l) ⌝ }
 {
     let name = l.name;
     put_two(out, at, name.place as usize, name.len as usize);
     let g = l.invariant;
-    write_constraint(out, at + 2, g);
+    write_constraint(out, at + NAME_SIZE, g);
 }
 
 // Source, target, label, guard, then the three resets.
 fn write_edge(out: &mut [usize], at: usize, e: Edge)
-    requires { ⌜ at ≤ 3100 ⌝ }
+    requires { ⌜ at + edge-size ≤ record-size ⌝ }
     ensures { λ _. ⌜ now (out .exit) ≡ put-at (now (out .entry)) at (edge-numbers e) ⌝ }
 {
     put_two(out, at, e.source as usize, e.target as usize);
     let l = e.label;
-    write_label(out, at + 2, l);
+    write_label(out, at + LABEL_PLACE, l);
     let g = e.guard;
-    write_constraint(out, at + 4, g);
+    write_constraint(out, at + GUARD_PLACE, g);
     let a = reset_number(e.resets[0]);
     let b = reset_number(e.resets[1]);
     let c = reset_number(e.resets[2]);
-    put_three(out, at + 17, a, b, c);
+    put_three(out, at + RESETS_PLACE, a, b, c);
 }
 
 fn write_channels(out: &mut [usize], t: Text)
-    ensures { λ _. ⌜ now (out .exit) ≡ put-at (now (out .entry)) 6 (rows 16 (channel-row t)) ⌝ }
+    ensures { λ _. ⌜ now (out .exit) ≡ put-at (now (out .entry)) channels-place (rows channel-limit (channel-row t)) ⌝ }
 {
     let mut i: usize = 0;
     while i < CHANNEL_LIMIT {
         let k = t.channels[i];
-        write_channel(out, CHANNELS + i * CHANNEL_NUMBERS, k);
+        write_channel(out, CHANNELS_PLACE + i * CHANNEL_SIZE, k);
         i += 1;
     }
 }
 
 fn write_clocks(out: &mut [usize], t: Text)
-    ensures { λ _. ⌜ now (out .exit) ≡ put-at (now (out .entry)) 54 (rows 3 (clock-row t)) ⌝ }
+    ensures { λ _. ⌜ now (out .exit) ≡ put-at (now (out .entry)) clocks-place (rows clock-limit (clock-row t)) ⌝ }
 {
     let mut i: usize = 0;
     while i < CLOCK_LIMIT {
         let name = t.clocks[i];
         let place = name.place as usize;
         let len = name.len as usize;
-        put_two(out, CLOCKS + i * CLOCK_NUMBERS, place, len);
+        put_two(out, CLOCKS_PLACE + i * NAME_SIZE, place, len);
         i += 1;
     }
 }
 
 fn write_locations(out: &mut [usize], t: Text)
-    ensures { λ _. ⌜ now (out .exit) ≡ put-at (now (out .entry)) 60 (rows 32 (location-row t)) ⌝ }
+    ensures { λ _. ⌜ now (out .exit) ≡ put-at (now (out .entry)) locations-place (rows location-limit (location-row t)) ⌝ }
 {
     let mut i: usize = 0;
     while i < LOCATION_LIMIT {
         let l = t.locations[i];
-        write_location(out, LOCATIONS + i * LOCATION_NUMBERS, l);
+        write_location(out, LOCATIONS_PLACE + i * LOCATION_SIZE, l);
         i += 1;
     }
 }
 
 fn write_edges(out: &mut [usize], t: Text)
-    ensures { λ _. ⌜ now (out .exit) ≡ put-at (now (out .entry)) 540 (rows 128 (edge-row t)) ⌝ }
+    ensures { λ _. ⌜ now (out .exit) ≡ put-at (now (out .entry)) edges-place (rows edge-limit (edge-row t)) ⌝ }
 {
     let mut i: usize = 0;
     while i < EDGE_LIMIT {
         let e = t.edges[i];
-        write_edge(out, EDGES + i * EDGE_NUMBERS, e);
+        write_edge(out, EDGES_PLACE + i * EDGE_SIZE, e);
         i += 1;
     }
 }
@@ -215,7 +245,7 @@ pub fn write(out: &mut [usize], t: Text, states: usize)
     ensures { λ _. ⌜ now (out .exit) ≡ put-at (now (out .entry)) 0 (numbers t states) ⌝ }
 {
     put_three(out, 0, t.channel_count, t.clock_count, t.location_count);
-    put_three(out, 3, t.init, t.edge_count, states);
+    put_three(out, INIT_PLACE, t.init, t.edge_count, states);
     write_channels(out, t);
     write_clocks(out, t);
     write_locations(out, t);

@@ -7,7 +7,7 @@ use lib.ListN.{drop, set}
 use Rattle.reader_tokens.specs.Scan.{past, same}
 use Rattle.reader_record.specs.declared.Name.{Name}
 use Rattle.reader_parts.specs.declared.Fault.{Fault}
-use Rattle.reader_parts.specs.declared.Fault.the-variants.{Declared, Unknown, TooMany}
+use Rattle.reader_parts.specs.declared.Fault.the-variants.{Declared, Unknown, TooManyItems}
 use Rattle.reader_parts.specs.declared.Status.{Status}
 use Rattle.reader_parts.specs.declared.Status.the-variants.{At, Refused}
 use Rattle.reader_parts.specs.declared.Declaration.{Declaration}
@@ -35,7 +35,7 @@ declare-name s names first number limit n (At e) =
     cond (ltb (slot-of s names n) name-slots)
     (no-declaration names n (Declared (n .place)))
     (cond (leb limit number)
-    (no-declaration names n (TooMany (n .place)))
+    (no-declaration names n (TooManyItems (n .place)))
     (record { status = At e; names = set names (first + number) n; name = n }))
 
 -- the next token, which has to be a name that is declared here
@@ -56,7 +56,7 @@ use-of s names first limit over n (At e) =
     let i = slot-of s names n in
     cond (leb first i && ltb i (first + limit))
     (cond over
-    (no-use (TooMany (n .place)))
+    (no-use (TooManyItems (n .place)))
     (record { status = At e; number = i - first; place = n .place }))
     (no-use (Unknown (n .place)))
 

@@ -7,7 +7,6 @@ use native.Mathlib.Omega.{arith}
 use lib.Dec.{eqb, leb, ltb}
 use lib.ListN.{length}
 use borrow.Author.Tests.{eqb-true}
-use Rattle.reader_record.specs.Limits.{largest-name}
 use Rattle.reader_record.specs.declared.Name.{Name}
 use Rattle.reader_tokens.specs.Kinds as kinds
 use Rattle.reader_tokens.specs.Tokens.{token-at}
@@ -16,6 +15,7 @@ use Rattle.reader_parts.specs.declared.Status.{Status}
 use Rattle.reader_parts.specs.declared.Status.the-variants.{At, Refused}
 use Rattle.reader_parts.specs.Status.{take, ahead, name-of, name-next}
 use Rattle.reader_parts.specs.Names.{slot-of, use-of, use-name}
+use Rattle.limits.specs.Limits.{largest-name}
 
 -- the bytes that the reader has still to read
 unfoldable pub left : List ℕ → Status → ℕ

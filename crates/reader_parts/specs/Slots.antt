@@ -1,7 +1,7 @@
 -- The table of names. "All names in one file differ", so one table holds them all, each kind in slots of its own: the
 -- process, the channels, the clocks and the locations. A slot that is not taken yet has a name of no bytes.
 use Prim.Native.Nat.{ℕ, _+_}
-use Rattle.reader_record.specs.Limits.{channel-limit, clock-limit, location-limit}
+use Rattle.limits.specs.Limits.{channel-limit, clock-limit, location-limit}
 
 abbrev pub process-slot : ℕ
 process-slot = 0

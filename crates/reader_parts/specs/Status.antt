@@ -7,13 +7,13 @@ use lib.Dec.{eqb, ltb}
 use Rattle.reader_tokens.specs.Kinds as kinds
 use Rattle.reader_tokens.specs.Tokens.{token-at}
 use Rattle.reader_tokens.specs.declared.Token.{Token}
-use Rattle.reader_record.specs.Limits.{largest-name}
 use Rattle.reader_record.specs.Record.{no-name}
 use Rattle.reader_parts.specs.declared.Fault.{Fault}
 use Rattle.reader_parts.specs.declared.Fault.the-variants.{Misfit, NameTooLong}
 use Rattle.reader_parts.specs.declared.Status.{Status}
 use Rattle.reader_parts.specs.declared.Status.the-variants.{At, Refused}
 use Rattle.reader_parts.specs.declared.NameRead.{NameRead}
+use Rattle.limits.specs.Limits.{largest-name}
 
 -- the next token, which has to be of the kind k; one that does not fit is refused at its place
 unfoldable pub take : List ℕ → Status → ℕ → Status

@@ -1,17 +1,17 @@
-// The parts of a contract text: how far the reader has come, single tokens, names and their table.
+// What each part of a contract text is read with: how far the reader has come, single tokens, names and their table.
 ghost use mathlib.Core.Path.{_≡_};
 ghost use mathlib.Core.Bool.{false};
 ghost use Prim.Native.Nat.{_+_, _-_, _≤_, _<_};
 ghost use lib.ListN.{length};
-ghost use Rattle.reader_record.specs.Limits.{largest-text};
 ghost use Rattle.reader_parts.specs.Slots.{name-slots};
 ghost use Rattle.reader_parts.specs.Status.{take, ahead, name-next, no-name-read};
 ghost use Rattle.reader_parts.specs.Names.{slot-of, no-declaration, declare, no-use, use-name};
-use reader_record::CHANNEL_LIMIT;
-use reader_record::CLOCK_LIMIT;
-use reader_record::LARGEST_NAME;
-use reader_record::LOCATION_LIMIT;
+use limits::CHANNEL_LIMIT;
+use limits::CLOCK_LIMIT;
+use limits::LARGEST_NAME;
+use limits::LOCATION_LIMIT;
 use reader_record::Name;
+ghost use Rattle.limits.specs.Limits.{largest-text};
 
 // The table of names: each kind has slots of its own.
 pub const PROCESS_SLOT: usize = 0;
@@ -34,7 +34,7 @@ pub enum Fault {
     Declared(usize),
     Unknown(usize),
     TooLarge(usize),
-    TooMany(usize),
+    TooManyItems(usize),
     OtherMark(usize),
 }
 
@@ -192,7 +192,7 @@ pub fn declare(
                 return no_declaration(names, name, f);
             }
             if limit <= number {
-                let f = Fault::TooMany(name.place as usize);
+                let f = Fault::TooManyItems(name.place as usize);
                 return no_declaration(names, name, f);
             }
             let mut all = names;
@@ -253,7 +253,7 @@ pub fn use_name(
                 return no_use(f);
             }
             if over {
-                let f = Fault::TooMany(n.place as usize);
+                let f = Fault::TooManyItems(n.place as usize);
                 return no_use(f);
             }
             let yes = Status::At(e);

@@ -1,20 +1,23 @@
-// Prints what reading returns, for programs that show it: a line for
-// the answer, then a line for each of the first items.
-use reader::Answer;
+// Prints what reading returns, for programs that show it: a line for the answer, then a line for each of the first items
+// of each list.
+use limits::CHANNEL_LIMIT;
+use limits::CLOCK_LIMIT;
+use limits::COMPARISON_LIMIT;
+use limits::EDGE_LIMIT;
+use limits::LOCATION_LIMIT;
 use reader::Parsed;
-use reader_record::CHANNEL_LIMIT;
-use reader_record::CLOCK_LIMIT;
-use reader_record::COMPARISON_LIMIT;
 use reader_record::Comparison;
 use reader_record::Constraint;
 use reader_record::Direction;
-use reader_record::EDGE_LIMIT;
-use reader_record::LOCATION_LIMIT;
 use reader_record::Label;
 use reader_record::Name;
 use reader_record::Sign;
 use reader_record::Text;
 use refusals::Refusal;
+use refusals::Verdict;
+
+// So many items of each list are shown.
+const SHOWN: usize = 4;
 
 // The lists of a text.
 enum List {
@@ -74,10 +77,11 @@ fn comparison_at(c: Constraint, i: usize) {
 }
 
 fn constraint(c: Constraint) {
-    comparison_at(c, 0);
-    comparison_at(c, 1);
-    comparison_at(c, 2);
-    comparison_at(c, 3);
+    let mut i = 0;
+    while i < COMPARISON_LIMIT {
+        comparison_at(c, i);
+        i += 1;
+    }
 }
 
 fn label(l: Label) {
@@ -146,11 +150,13 @@ fn reset(set: bool, clock: usize) {
     }
 }
 
-// Which of the three clocks an edge sets to 0.
+// Which of the clocks an edge sets to 0.
 fn resets(all: [bool; CLOCK_LIMIT]) {
-    reset(all[0], 0);
-    reset(all[1], 1);
-    reset(all[2], 2);
+    let mut i = 0;
+    while i < CLOCK_LIMIT {
+        reset(all[i], i);
+        i += 1;
+    }
 }
 
 fn edge(t: Text, i: usize) {
@@ -182,12 +188,13 @@ fn item(t: Text, k: List, i: usize) {
     }
 }
 
-// A line for each of the first four items of a list.
+// A line for each of the first items of a list.
 fn first_items(t: Text, k: List) {
-    item(t, k, 0);
-    item(t, k, 1);
-    item(t, k, 2);
-    item(t, k, 3);
+    let mut i = 0;
+    while i < SHOWN {
+        item(t, k, i);
+        i += 1;
+    }
 }
 
 fn accepted(t: Text) {
@@ -218,10 +225,10 @@ fn refused(f: Refusal) {
 pub fn print(p: Parsed) {
     let a = p.answer;
     match a {
-        Answer::Accepted => {
+        Verdict::Accepted => {
             let t = p.text;
             accepted(t);
         }
-        Answer::Refused(f) => refused(f),
+        Verdict::Refused(f) => refused(f),
     }
 }

@@ -1,24 +1,12 @@
-// The record of a contract text: what reading returns, and the limits of document 01.
-pub const LARGEST_TEXT: usize = 32768;
+// The record of a contract text: what reading returns.
+use limits::CHANNEL_LIMIT;
+use limits::CLOCK_LIMIT;
+use limits::COMPARISON_LIMIT;
+use limits::EDGE_LIMIT;
+use limits::LOCATION_LIMIT;
 
-pub const LARGEST_NAME: usize = 31;
-
-pub const CHANNEL_LIMIT: usize = 16;
-
-pub const CLOCK_LIMIT: usize = 3;
-
-pub const LOCATION_LIMIT: usize = 32;
-
-pub const EDGE_LIMIT: usize = 128;
-
-pub const COMPARISON_LIMIT: usize = 4;
-
-pub const LARGEST_CONSTANT: usize = 1000;
-
-pub const STATE_LIMIT: usize = 4096;
-
-// A name, as the byte place and the length of its declaration. Names are kept in a table that is passed by value, and
-// a text has at most 32,768 bytes and a name at most 31: so a name is in four bytes.
+// A name, as the byte place and the length of its declaration. Names are kept in a table that is passed by value: so a
+// name is in four bytes, which the limits on the bytes of a text and of a name allow.
 pub struct Name {
     pub place: u16,
     pub len: u8,
@@ -43,8 +31,8 @@ pub enum Sign {
     Equal,
 }
 
-// A clock, by its number from 0, a sign and a constant. A record is passed by value and holds 640 comparisons, 160
-// constraints and 128 edges: their numbers are in the narrowest types that the limits above allow.
+// A clock, by its number from 0, a sign and a constant. A record is passed by value and holds hundreds of comparisons,
+// constraints and edges: their numbers are in the narrowest types that the limits allow.
 pub struct Comparison {
     pub clock: u8,
     pub sign: Sign,

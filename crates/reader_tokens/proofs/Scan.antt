@@ -1,4 +1,4 @@
--- Laws of `run`, `past` and `agree`: one step, and the end.
+-- Laws of `run`, `past`, `agree` and `numeral-value`: one step, and the end.
 use mathlib.Core.Path.{_≡_, refl, ap, _∙_, sym}
 use mathlib.Core.Bool.{Bool, true, false}
 use mathlib.Core.List.{List, [], _∷_}
@@ -9,9 +9,9 @@ use Prim.Native.Char.{code}
 use lib.ListN.{length, getD, drop, drop-of-length-le}
 use lib.Seq.{drop-cons}
 use lib.Dec.{leb}
-use borrow.Author.Tests.{eq-eqb, ne-eqb, le-leb, lt-leb, leb-true, leb-false}
-use Rattle.reader_record.specs.Limits.{largest-constant}
-use Rattle.reader_tokens.specs.Scan.{is-digit, run, past, value, capped, agree}
+use borrow.Author.Tests.{eq-eqb, ne-eqb, leb-true}
+use Rattle.reader_tokens.specs.Scan.{is-digit, run, past, numeral-value, over-constant, clamped, agree}
+use Rattle.reader_tokens.specs.Clamped.{clamped-low, clamped-high, by-clamp}
 
 module _ {A : Type 0} (p : A → Bool) (s : List A) (i : ℕ) (d : A) where
   pub past-yes : i < length s → p (getD s i d) ≡ true → past p s i ≡ past p s (i + 1)
@@ -59,17 +59,17 @@ agree-none (suc n) x y h = absurd (omega arith)
 
 -- numerals: a digit more, the last digit, the end
 module _ (s : List ℕ) (i v : ℕ) where
-  pub value-yes : i < length s → is-digit (getD s i 0) ≡ true → value v (drop i s) ≡ value (v * 10 +
+  pub value-yes : i < length s → is-digit (getD s i 0) ≡ true → numeral-value v (drop i s) ≡ numeral-value (v * 10 +
       (getD s i 0 - code "0")) (drop (i + 1) s)
-  unfolding value
+  unfolding numeral-value
   value-yes h e = rw (drop-cons s i 0, e, add-one i)
 
-  pub value-no : i < length s → is-digit (getD s i 0) ≡ false → value v (drop i s) ≡ v
-  unfolding value
+  pub value-no : i < length s → is-digit (getD s i 0) ≡ false → numeral-value v (drop i s) ≡ v
+  unfolding numeral-value
   value-no h e = rw (drop-cons s i 0, e)
 
-  pub value-end : length s ≤ i → value v (drop i s) ≡ v
-  unfolding value
+  pub value-end : length s ≤ i → numeral-value v (drop i s) ≡ v
+  unfolding numeral-value
   value-end h = rw (drop-of-length-le s h)
 
 pub digit-low : (b : ℕ) → is-digit b ≡ true → code "0" ≤ b
@@ -83,45 +83,28 @@ digit-low b h = by (leb (code "0") b) refl
     by true e = leb-true (code "0") b e
     by false e = never (rw e at h)
 
-pub capped-low : (n : ℕ) → n ≤ largest-constant → capped n ≡ n
-unfolding capped
-capped-low n h = rw (le-leb n largest-constant h)
+pub clamped-small : (n : ℕ) → n ≤ over-constant → clamped n ≡ n
+clamped-small n h = by-clamp (λ (m : ℕ). m ≡ n) n (λ l. refl) (λ l. omega arith)
 
-pub capped-high : (n : ℕ) → largest-constant < n → capped n ≡ (suc largest-constant)
-unfolding capped
-capped-high n h = rw (lt-leb n largest-constant h)
-
--- what holds of a number and of its cap holds where the number is low and where it is high
-pub by-cap : (P : ℕ → Type 0) (n : ℕ) → (n ≤ largest-constant → P n) → (largest-constant < n → P
-    (suc largest-constant)) → P (capped n)
-by-cap P n f g = by (leb n largest-constant) refl
-  where
-    by : (t : Bool) → leb n largest-constant ≡ t → P (capped n)
-    by true e = rw (capped-low n (leb-true n largest-constant e)) (f (leb-true n largest-constant e))
-    by false e = rw (capped-high n (leb-false n largest-constant e)) (g (leb-false n largest-constant e))
-
-pub capped-small : (n : ℕ) → n ≤ (suc largest-constant) → capped n ≡ n
-capped-small n h = by-cap (λ (m : ℕ). m ≡ n) n (λ l. refl) (λ l. omega arith)
-
-pub capped-twice : (n : ℕ) → capped (capped n) ≡ capped n
-capped-twice n = by-cap (λ (m : ℕ). capped m ≡ m) n (λ l. capped-low n l) (λ l. capped-high (suc largest-constant)
+pub clamped-twice : (n : ℕ) → clamped (clamped n) ≡ clamped n
+clamped-twice n = by-clamp (λ (m : ℕ). clamped m ≡ m) n (λ l. clamped-low n l) (λ l. clamped-high over-constant
     (omega arith))
 
-pub capped-digit : (v d : ℕ) → capped (capped v * 10 + d) ≡ capped (v * 10 + d)
-capped-digit v d = by-cap (λ (m : ℕ). capped (m * 10 + d) ≡ capped (v * 10 + d)) v (λ l. refl) (λ l. capped-high
-    (suc largest-constant * 10 + d) (omega arith) ∙ sym (capped-high (v * 10 + d) (omega arith)))
+pub clamped-digit : (v d : ℕ) → clamped (clamped v * 10 + d) ≡ clamped (v * 10 + d)
+clamped-digit v d = by-clamp (λ (m : ℕ). clamped (m * 10 + d) ≡ clamped (v * 10 + d)) v (λ l. refl) (λ l. clamped-high
+    (over-constant * 10 + d) (omega arith) ∙ sym (clamped-high (v * 10 + d) (omega arith)))
 
-pub capped-value : (x : List ℕ) (v : ℕ) → capped (value (capped v) x) ≡ capped (value v x)
-unfolding value
-capped-value [] v = capped-twice v
-capped-value (b ∷ x) v = by (λ (n : ℕ). capped-value x n) (is-digit b) refl
+pub clamped-value : (x : List ℕ) (v : ℕ) → clamped (numeral-value (clamped v) x) ≡ clamped (numeral-value v x)
+unfolding numeral-value
+clamped-value [] v = clamped-twice v
+clamped-value (b ∷ x) v = by (λ (n : ℕ). clamped-value x n) (is-digit b) refl
   where
-    by : ((n : ℕ) → capped (value (capped n) x) ≡ capped (value n x)) → (t : Bool) → is-digit b ≡ t → capped (value
-        (capped v) (b ∷ x)) ≡ capped (value v (b ∷ x))
+    by : ((n : ℕ) → clamped (numeral-value (clamped n) x) ≡ clamped (numeral-value n x)) → (t : Bool) → is-digit b ≡ t → clamped (numeral-value
+        (clamped v) (b ∷ x)) ≡ clamped (numeral-value v (b ∷ x))
     by again true e =
-        rw e (sym (again (capped v * 10 + (b - code "0"))) ∙ ap (λ (n : ℕ). capped (value n x)) (capped-digit v
+        rw e (sym (again (clamped v * 10 + (b - code "0"))) ∙ ap (λ (n : ℕ). clamped (numeral-value n x)) (clamped-digit v
         (b - code "0")) ∙ again (v * 10 + (b - code "0")))
-    by again false e = rw e (capped-twice v)
+    by again false e = rw e (clamped-twice v)
 
-pub capped-bound : (n : ℕ) → capped n ≤ (suc largest-constant)
-capped-bound n = by-cap (λ (m : ℕ). m ≤ (suc largest-constant)) n (λ l. omega arith) (λ l. omega arith)
+pub clamped-bound : (n : ℕ) → clamped n ≤ over-constant
+clamped-bound n = by-clamp (λ (m : ℕ). m ≤ over-constant) n (λ l. omega arith) (λ l. omega arith)

@@ -85,8 +85,12 @@ module _ (ws : List (List ℕ)) (lengths : List ℕ) (q : lengths ≡ map length
         rw (sym (drop-drop (getD lengths i 0) at row), split, long)
         (drop-append-seam (getD ws i []) (flatten (drop (i + 1) ws)))
 
+-- the length of `chan`, `init` and `sync`
+abbrev pub shortest-word : ℕ
+shortest-word = 4
+
 -- fewer bytes than every word has are a name
-pub short-is-name : (n : ℕ) → n < 4 → (x : List ℕ) → name ≡ word-kind n x
+pub short-is-name : (n : ℕ) → n < shortest-word → (x : List ℕ) → name ≡ word-kind n x
 unfolding word-kind word-from words same
 short-is-name zero h x = refl
 short-is-name (suc zero) h x = refl

@@ -2,6 +2,10 @@
 use Prim.Native.Nat.{ℕ, _+_, _*_}
 use Prim.Native.Char.{code}
 
+-- how many values a byte has
+abbrev pub byte-values : ℕ
+byte-values = 256
+
 -- the end of the text, "or the end"
 abbrev pub end : ℕ
 end = 0
@@ -81,7 +85,7 @@ abbrev pub becomes : ℕ
 becomes = code "="
 
 abbrev pub pair : ℕ → ℕ → ℕ
-pair a b = 256 * a + b
+pair a b = byte-values * a + b
 
 -- `->`
 abbrev pub arrow : ℕ

@@ -1,4 +1,5 @@
 pub mod Scan
+pub mod Clamped
 pub mod Kinds
 pub mod Tokens
 pub mod Progress

@@ -9,7 +9,7 @@ use lib.ListN.{length, drop, getD, length-drop, List·getD-eq-default}
 use lib.Seq.{drop-cons}
 use borrow.Author.Tests.{ltb-true, ltb-false, lt-ltb, eqb-true}
 use Rattle.reader_tokens.specs.Scan.{bytes, member, is-space, is-letter, is-digit, is-part, run, past}
-use Rattle.reader_tokens.specs.Kinds.{end, stray}
+use Rattle.reader_tokens.specs.Kinds.{byte-values, end, stray}
 use Rattle.reader_tokens.specs.Tokens.{is-pair, is-single, mark-kind, mark-length, mark-at, word-at, token-from, token-at}
 use Rattle.reader_tokens.specs.declared.Token.{Token}
 
@@ -54,7 +54,7 @@ member-most a (k ∷ ks) e = by (eqb a k) refl (λ h. member-most a ks h)
     by true q f = omega (arith, eqb-true a k q)
     by false q f = omega (arith, f (rw q at e))
 
-single-small : (a : ℕ) → is-single a ≡ true → a < 256
+single-small : (a : ℕ) → is-single a ≡ true → a < byte-values
 unfolding is-single largest
 single-small a h = omega (arith, member-most a (bytes ",;{}()?!=") h)
 
@@ -63,15 +63,15 @@ mark-alone : (a : ℕ) → mark-length (mark-kind a 0) ≡ 1
 unfolding mark-length mark-kind is-pair
 mark-alone a = simp and-false (by (is-single a) refl)
   where
-    by : (t : Bool) → is-single a ≡ t → _≡_ {A = ℕ} (cond (ltb (cond (is-single a) a stray) 256) 1 2) 1
-    by true e = rw (e, lt-ltb a 256 (single-small a e))
+    by : (t : Bool) → is-single a ≡ t → _≡_ {A = ℕ} (cond (ltb (cond (is-single a) a stray) byte-values) 1 2) 1
+    by true e = rw (e, lt-ltb a byte-values (single-small a e))
     by false e = rw e
 
 one-or-two : (k : ℕ) → (0 < mark-length k) × (mark-length k ≤ 2)
 unfolding mark-length
-one-or-two k = by (ltb k 256) refl
+one-or-two k = by (ltb k byte-values) refl
   where
-    by : (t : Bool) → ltb k 256 ≡ t → (0 < mark-length k) × (mark-length k ≤ 2)
+    by : (t : Bool) → ltb k byte-values ≡ t → (0 < mark-length k) × (mark-length k ≤ 2)
     by true e = rw e (omega arith, omega arith)
     by false e = rw e (omega arith, omega arith)
 

@@ -6,7 +6,7 @@ use Prim.Native.Char.{Char, code}
 use Prim.Native.String.{String}
 use lib.Dec.{eqb, leb}
 use lib.ListN.{drop}
-use Rattle.reader_record.specs.Limits.{largest-constant}
+use Rattle.limits.specs.Limits.{largest-constant}
 
 -- the bytes of a quoted text
 abbrev pub bytes : String → List ℕ
@@ -50,13 +50,17 @@ abbrev pub with-digit : ℕ → ℕ → ℕ
 with-digit a b = a * 10 + (b - code "0")
 
 -- the number that the digits at the front are, read on from a: of any size
-unfoldable pub value : ℕ → List ℕ → ℕ
-value a [] = a
-value a (b ∷ s) = let v = value (with-digit a b) s in cond (is-digit b) v a
+unfoldable pub numeral-value : ℕ → List ℕ → ℕ
+numeral-value a [] = a
+numeral-value a (b ∷ s) = let v = numeral-value (with-digit a b) s in cond (is-digit b) v a
 
--- n where it is no larger than the largest constant, else one more than that: what the code keeps of a numeral's value
-unfoldable pub capped : ℕ → ℕ
-capped n = cond (leb n largest-constant) n (suc largest-constant)
+-- what stands for every number above the largest constant
+abbrev pub over-constant : ℕ
+over-constant = suc largest-constant
+
+-- n where it is no larger than the largest constant: what the code keeps of a numeral's value
+unfoldable pub clamped : ℕ → ℕ
+clamped n = cond (leb n largest-constant) n over-constant
 
 -- the first n bytes are there in both, and equal
 unfoldable pub agree : ℕ → List ℕ → List ℕ → Bool

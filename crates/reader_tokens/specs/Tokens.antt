@@ -6,7 +6,7 @@ use Prim.Native.Char.{Char, code}
 use lib.Dec.{eqb, ltb}
 use lib.ListN.{length, drop, getD}
 use Rattle.reader_tokens.specs.Scan.{bytes, member, is-space, is-letter, is-digit, is-part, past, same}
-use Rattle.reader_tokens.specs.Kinds.{end, stray, name, numeral, broadcast, pair}
+use Rattle.reader_tokens.specs.Kinds.{byte-values, end, stray, name, numeral, broadcast, pair}
 use Rattle.reader_tokens.specs.declared.Class.{Class}
 use Rattle.reader_tokens.specs.declared.Class.the-variants.{Space, Part, Digit}
 use Rattle.reader_tokens.specs.declared.Token.{Token}
@@ -59,7 +59,7 @@ mark-kind a b = cond (is-pair a b) (pair a b) (cond (is-single a) a stray)
 
 -- how many bytes a mark has
 unfoldable pub mark-length : ℕ → ℕ
-mark-length k = cond (ltb k 256) 1 2
+mark-length k = cond (ltb k byte-values) 1 2
 
 unfoldable pub mark-at : List ℕ → ℕ → Token
 mark-at s p =

@@ -1,17 +1,19 @@
-// Tokens of a contract text, read at a byte place.
+// Finds the token at or after a byte place of a contract text, and what a numeral comes to.
 ghost use mathlib.Core.Path.{_≡_};
 ghost use mathlib.Core.Bool.{true};
 ghost use mathlib.Core.List.{map, flatten};
-ghost use Prim.Native.Nat.{suc, _+_, _-_, _*_, _≤_, _<_};
+ghost use Prim.Native.Nat.{_+_, _-_, _*_, _≤_, _<_};
 ghost use lib.ListN.{length, getD, drop};
-ghost use Rattle.reader_record.specs.Limits.{largest-constant};
 ghost use Rattle.reader_tokens.specs.Scan.{member, is-space, is-letter, is-digit, is-part, past, with-digit};
-ghost use Rattle.reader_tokens.specs.Scan.{value, capped, agree, same};
+ghost use Rattle.reader_tokens.specs.Scan.{numeral-value, over-constant, clamped, agree, same};
 ghost use Rattle.reader_tokens.specs.Tokens.{is-in, words, word-kind, is-single, is-pair, mark-kind};
 ghost use Rattle.reader_tokens.specs.Tokens.{mark-at, word-at, token-from, token-at};
-use reader_record::LARGEST_CONSTANT;
+use limits::LARGEST_CONSTANT;
 
-// The kinds of token. A mark of one byte is its byte, one of two is 256 times the first and the second.
+// How many values a byte has.
+const BYTE_VALUES: usize = 256;
+
+// The kinds of token. A mark of one byte is its byte, one of two is BYTE_VALUES times the first and the second.
 pub const END: usize = 0;
 
 pub const STRAY: usize = 1;
@@ -60,15 +62,15 @@ pub const OUTPUT: usize = b'!' as usize;
 
 pub const BECOMES: usize = b'=' as usize;
 
-pub const ARROW: usize = 256 * b'-' as usize + b'>' as usize;
+pub const ARROW: usize = BYTE_VALUES * b'-' as usize + b'>' as usize;
 
-pub const AT_MOST: usize = 256 * b'<' as usize + b'=' as usize;
+pub const AT_MOST: usize = BYTE_VALUES * b'<' as usize + b'=' as usize;
 
-pub const AT_LEAST: usize = 256 * b'>' as usize + b'=' as usize;
+pub const AT_LEAST: usize = BYTE_VALUES * b'>' as usize + b'=' as usize;
 
-pub const EQUAL: usize = 256 * b'=' as usize + b'=' as usize;
+pub const EQUAL: usize = BYTE_VALUES * b'=' as usize + b'=' as usize;
 
-pub const BOTH: usize = 256 * b'&' as usize + b'&' as usize;
+pub const BOTH: usize = BYTE_VALUES * b'&' as usize + b'&' as usize;
 
 // The length of `chan`, `init` and `sync`.
 const SHORTEST_WORD: usize = 4;
@@ -267,7 +269,7 @@ fn mark_kind(a: u8, b: u8) -> usize
     ensures { λ r. ⌜ r ≡ mark-kind a b ⌝ }
 {
     if is_pair(a, b) {
-        return 256 * wide(a) + wide(b);
+        return BYTE_VALUES * wide(a) + wide(b);
     }
     if is_single(a) {
         return wide(a);
@@ -292,7 +294,7 @@ fn mark_at(s: &[u8], p: usize) -> Token
     let a = byte_at(s, p);
     let b = byte_at(s, p + 1);
     let k = mark_kind(a, b);
-    if k < 256 {
+    if k < BYTE_VALUES {
         return Token {
             kind: k,
             place: p,
@@ -353,8 +355,8 @@ pub fn token_at(s: &[u8], at: usize) -> Token
 
 // The number v with the digit b after it, OVER_CONSTANT for any above the largest constant.
 fn with_digit(v: usize, b: u8) -> usize
-    requires { ⌜ (v ≤ suc largest-constant) × (is-digit b ≡ true) ⌝ }
-    ensures { λ r. ⌜ r ≡ capped (with-digit v b) ⌝ }
+    requires { ⌜ (v ≤ over-constant) × (is-digit b ≡ true) ⌝ }
+    ensures { λ r. ⌜ r ≡ clamped (with-digit v b) ⌝ }
 {
     let d = wide(b);
     let n = v * 10 + (d - DIGIT_ZERO);
@@ -366,7 +368,7 @@ fn with_digit(v: usize, b: u8) -> usize
 
 // The number that the digits from p on are, OVER_CONSTANT for any above the largest constant.
 pub fn number_at(s: &[u8], p: usize) -> usize
-    ensures { λ r. ⌜ r ≡ capped (value 0 (drop p (now (s .entry)))) ⌝ }
+    ensures { λ r. ⌜ r ≡ clamped (numeral-value 0 (drop p (now (s .entry)))) ⌝ }
 {
     let mut v: usize = 0;
     let mut i = p;

@@ -1,21 +1,25 @@
 // Checks table.pbm against left.xta and right.xta: prints ACCEPTED and the number of pairs, or the refusal.
+use limits::KEEP_LIMIT;
 use tables::CheckAnswer;
+use tables_header::TABLE_LIMIT;
 ghost use mathlib.Core.Path.{_≡_};
+ghost use Prim.Native.Nat.{_+_};
 ghost use lib.ListN.{length};
+ghost use Rattle.tables_header.specs.Header.{table-limit};
 
-// Room for the largest table that the program `widest` makes, and one
-// byte more, so that a longer file is seen to be longer.
-const ROOM: usize = 262145;
+// Room for every table that two texts can have, and one byte more, so that a longer file is seen to be longer. It stands
+// behind a function because antt must not unfold an array of this length.
+const ROOM: usize = TABLE_LIMIT + 1;
 
 fn room() -> [u8; ROOM]
-    ensures { λ r. ⌜ length r ≡ 262145 ⌝ }
+    ensures { λ r. ⌜ length r ≡ table-limit + 1 ⌝ }
 {
     [0u8; ROOM]
 }
 
 fn verdict(left: &[u8], right: &[u8], table: &[u8]) {
-    let mut keep = [0u8; 512];
-    let answer = tables::check(left, right, &mut keep, table);
+    let mut keep = [0u8; KEEP_LIMIT];
+    let answer = operations::check(left, right, &mut keep, table);
     match answer {
         CheckAnswer::Refused(f) => programs::put_refusal(f),
         CheckAnswer::Accepted(count) => {

@@ -12,22 +12,22 @@ use Rattle.systems.specs.Tests.{at, ones}
 use Rattle.systems.specs.Definitions.{Implementation, Satisfies}
 use Rattle.systems.specs.Finite as finite
 use Rattle.reader_record.specs.declared.Text.{Text}
-use Rattle.clocks_bits.specs.Packed.{bytes}
+use Rattle.bitmaps.specs.Packed.{bytes-for}
 use Rattle.clocks.specs.States.{state-count, start-state}
 use Rattle.clocks.specs.Safe.{safe-states}
 use Rattle.clocks.specs.Accepted.{Accepted}
 use Rattle.clocks.specs.Contract.{signature, system}
 use Rattle.clocks.specs.Encoded.{safe-states-same}
 use Rattle.clocks.specs.Results.{Meaning, text-implementable}
-use Rattle.clocks_read.specs.declared.ReadAnswer.the-variants as read
+use Rattle.refusals.specs.declared.Verdict.the-variants as verdict
 use Rattle.clocks_read.specs.Reading.{read-outcome}
 use Rattle.clocks_read.specs.Laws.{read-accepted}
 use Rattle.safe_states.specs.declared.SafeAnswer.the-variants.{Found}
 use Rattle.safe_states.specs.Outcome.{Outcome, found-outcome, kept-outcome, answered, safe-outcome}
 
 -- an accepted text and a keep that is long enough
-module _ (s k : List ℕ) (e : read-outcome s .answer ≡ read.Accepted)
-    (long : bytes (state-count (read-outcome s .text)) ≤ length k) where
+module _ (s k : List ℕ) (e : read-outcome s .answer ≡ verdict.Accepted)
+    (long : bytes-for (state-count (read-outcome s .text)) ≤ length k) where
   abbrev pub text : Text
   text = read-outcome s .text
 
@@ -38,8 +38,8 @@ module _ (s k : List ℕ) (e : read-outcome s .answer ≡ read.Accepted)
   pub succeeds : safe-outcome s k ≡ found-outcome text k
   unfolding safe-outcome answered kept-outcome
   succeeds =
-      let q : ltb (length k) (bytes (state-count (read-outcome s .text))) ≡ false =
-      le-ltb (length k) (bytes (state-count (read-outcome s .text))) long in
+      let q : ltb (length k) (bytes-for (state-count (read-outcome s .text))) ≡ false =
+      le-ltb (length k) (bytes-for (state-count (read-outcome s .text))) long in
       rw e (rw (q, kept-outcome))
 
   -- the start as the operation answers it is safe in the text's system

@@ -1,3 +1,3 @@
 pub mod Outcome
-pub mod Paths
+pub mod Ready
 pub mod Consistent

@@ -7,11 +7,11 @@ use lib.ListN.{length}
 use Rattle.systems.specs.Tests.{at, ones}
 use Rattle.refusals.specs.Refusals.{keep-too-short}
 use Rattle.reader_record.specs.declared.Text.{Text}
-use Rattle.clocks_bits.specs.Packed.{bytes, packed}
+use Rattle.bitmaps.specs.Packed.{bytes-for, packed}
 use Rattle.clocks.specs.States.{state-count, start-state}
 use Rattle.clocks.specs.Safe.{safe-states}
-use Rattle.clocks_read.specs.declared.ReadAnswer.{ReadAnswer}
-use Rattle.clocks_read.specs.declared.ReadAnswer.the-variants as read
+use Rattle.refusals.specs.declared.Verdict.{Verdict}
+use Rattle.refusals.specs.declared.Verdict.the-variants as verdict
 use Rattle.clocks_read.specs.Reading.{read-outcome}
 use Rattle.safe_states.specs.declared.SafeAnswer.{SafeAnswer}
 use Rattle.safe_states.specs.declared.SafeAnswer.the-variants.{Found, Refused}
@@ -34,13 +34,13 @@ found-outcome t k = record {
 
 -- code 13: keep too short
 unfoldable pub kept-outcome : Text → List ℕ → Outcome
-kept-outcome t k = elim (ltb (length k) (bytes (state-count t)))
-    [ true ↦ refused (Refused (keep-too-short (bytes (state-count t)))) k | false ↦ found-outcome t k ]
+kept-outcome t k = elim (ltb (length k) (bytes-for (state-count t)))
+    [ true ↦ refused (Refused (keep-too-short (bytes-for (state-count t)))) k | false ↦ found-outcome t k ]
 
 -- codes 1 to 11 come before it
-unfoldable pub answered : ReadAnswer → Text → List ℕ → Outcome
-answered read.Accepted t k = kept-outcome t k
-answered (read.Refused f) t k = refused (Refused f) k
+unfoldable pub answered : Verdict → Text → List ℕ → Outcome
+answered verdict.Accepted t k = kept-outcome t k
+answered (verdict.Refused f) t k = refused (Refused f) k
 
 unfoldable pub safe-outcome : List ℕ → List ℕ → Outcome
 safe-outcome s k = answered (read-outcome s .answer) (read-outcome s .text) k

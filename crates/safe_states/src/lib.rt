@@ -1,14 +1,14 @@
 // Document 01's safe-state operation.
 use clocks_read::Measured;
-use clocks_read::ReadAnswer;
 use reader_record::Text;
 use refusals::Refusal;
+use refusals::Verdict;
 ghost use mathlib.Core.Path.{_≡_};
 ghost use lib.ListN.{length};
-ghost use Rattle.clocks_table.specs.Judge.{Room};
+ghost use Rattle.clocks_table.specs.Room.{Room};
 ghost use Rattle.clocks_read.specs.Measured.{Measures};
 ghost use Rattle.safe_states.specs.Outcome.{Outcome, found-outcome, safe-outcome};
-ghost use Rattle.safe_states.specs.Paths.{Ready};
+ghost use Rattle.safe_states.specs.Ready.{Ready};
 
 // The count of the safe states and whether the start is one, or what is refused.
 pub enum SafeAnswer {
@@ -27,7 +27,7 @@ fn found(t: Text, n: usize, moves: &[u16], holds: &[u8], keep: &mut [u8]) -> Saf
     let steps = t.channel_count + 1;
     let count = clocks_safe::safe(&mut *keep, holds, moves, &inputs, n, steps);
     let start = clocks_states::start_of(t.init, t.location_count, n);
-    let safe = clocks_bits::get(keep, start);
+    let safe = bitmaps::get(keep, start);
     SafeAnswer::Found(count, safe)
 }
 
@@ -46,18 +46,12 @@ fn safe_with(
     let reading = clocks_read::judge(m, moves, holds);
     let answer = reading.answer;
     match answer {
-        ReadAnswer::Refused(f) => SafeAnswer::Refused(f),
-        ReadAnswer::Accepted => {
+        Verdict::Refused(f) => SafeAnswer::Refused(f),
+        Verdict::Accepted => {
             let n = reading.states;
-            let need = (n + 7) / 8;
+            let need = bitmaps::bytes_for(n);
             if keep.len() < need {
-                let f = Refusal {
-                    code: 13,
-                    file: 0,
-                    p: need,
-                    q: 0,
-                };
-                return SafeAnswer::Refused(f);
+                return SafeAnswer::Refused(Refusal::keep_too_short(need));
             }
             let t = reading.text;
             found(t, n, moves, holds, keep)
@@ -71,12 +65,12 @@ pub fn safe_states(text: &[u8], keep: &mut [u8]) -> SafeAnswer
         (safe-outcome (now (text .entry)) (now (keep .entry))) ⌝ }
 {
     let m = clocks_read::measure(text);
-    if m.states <= clocks_read::FEW_STATES {
-        let mut moves = clocks_read::few_moves();
-        let mut holds = clocks_read::few_states();
+    if m.states <= limits::FEW_STATES {
+        let mut moves = clocks_read::moves_for_few_states();
+        let mut holds = clocks_read::bits_for_few_states();
         return safe_with(text, m, &mut moves, &mut holds, keep);
     }
-    let mut moves = clocks_read::no_moves();
-    let mut holds = clocks_read::no_states();
+    let mut moves = clocks_read::moves_for_any_text();
+    let mut holds = clocks_read::bits_for_any_text();
     safe_with(text, m, &mut moves, &mut holds, keep)
 }

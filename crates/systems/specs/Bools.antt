@@ -1,7 +1,7 @@
 -- Laws of the tests of Tests.antt.
 use mathlib.Core.Path.{_≡_, refl, sym, subst}
 use mathlib.Core.Logic.{_↔_, _⊎_, inl, inr, ⊎-elim}
-use mathlib.Core.Bool.{Bool, true, false, not, _&&_, _||_}
+use mathlib.Core.Bool.{Bool, true, false, not, _&&_, _||_, cond}
 use mathlib.Core.Option.{Option, none, some}
 use Prim.Native.Nat.{ℕ, zero, suc, _+_, _≤_, _<_}
 use native.Mathlib.Nat.{eq-or-lt-of-le, le-of-suc-le-suc, not-suc-le-zero}
@@ -116,3 +116,28 @@ lands-intro X o t e h = subst (λ (o : Option ℕ). T (lands X o)) (sym e) h
 
 pub none-some : {X Y : Type 0} (t : X) → none ≡ some t → Y
 none-some t e = let z : _≡_ {A = ℕ} 0 1 = cc in absurd (omega arith)
+
+-- an option that is there only if a test passes
+pub guard-elim : {X : Type 0} (b : Bool) (o : Option X) (t : X) → cond b o none ≡ some t → T b × (o ≡ some t)
+guard-elim true o t e = (tt, e)
+guard-elim false o t e = none-some t e
+
+pub all-same : (n : ℕ) (p q : ℕ → Bool) → ((i : ℕ) → i < n → p i ≡ q i) → all n p ≡ all n q
+unfolding all
+all-same zero p q e = refl
+all-same (suc n) p q e = rw (e n (omega arith), all-same n p q (λ i h. e i (omega arith)))
+
+pub any-same : (n : ℕ) (p q : ℕ → Bool) → ((i : ℕ) → i < n → p i ≡ q i) → any n p ≡ any n q
+unfolding any
+any-same zero p q e = refl
+any-same (suc n) p q e = rw (e n (omega arith), any-same n p q (λ i h. e i (omega arith)))
+
+pub stays-same : (p q : ℕ → Bool) (o : Option ℕ) → ((t : ℕ) → o ≡ some t → p t ≡ q t) → stays p o ≡ stays q o
+unfolding stays
+stays-same p q none e = refl
+stays-same p q (some t) e = e t refl
+
+pub lands-same : (p q : ℕ → Bool) (o : Option ℕ) → ((t : ℕ) → o ≡ some t → p t ≡ q t) → lands p o ≡ lands q o
+unfolding lands
+lands-same p q none e = refl
+lands-same p q (some t) e = e t refl

@@ -2,16 +2,12 @@
 -- channel numbers of the left, `f` giving the right's number of each.
 use mathlib.Core.Path.{_≡_, refl}
 use mathlib.Core.Bool.{Bool, true, false, cond}
-use mathlib.Core.Option.{Option, none, some}
+use mathlib.Core.Option.{Option, none}
 use Prim.Native.Nat.{ℕ}
-use lib.Dec.{T, leb, leb→le, le→leb}
-use Rattle.systems.specs.Bools.{T-true, none-some}
+use lib.Dec.{leb, leb→le, le→leb}
+use Rattle.systems.specs.Bools.{T-true, guard-elim}
 use Rattle.systems.specs.Definitions.{Signature, Input, System}
 use Rattle.systems.specs.Finite.{Finite-system, cap-option, Capping}
-
-pub guard-elim : {X : Type 0} (b : Bool) (o : Option X) (t : X) → cond b o none ≡ some t → T b × (o ≡ some t)
-guard-elim true o t e = (tt, e)
-guard-elim false o t e = none-some t e
 
 module _ {A B : Signature} (f : ℕ → ℕ) where
   -- step c of A is step f c

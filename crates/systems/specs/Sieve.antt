@@ -9,9 +9,10 @@ use native.Mathlib.Nat.{eq-or-lt-of-le}
 use native.Mathlib.Omega.{arith}
 use lib.Dec.{T, T-not, eqb, eqb→eq}
 use native.Mathlib.Decide.{ℕ-discrete}
-use lib.ListN.{length, set, replicate, getD-replicate}
+use lib.ListN.{length, set, replicate, getD-replicate, length-replicate}
 use Rattle.systems.specs.Tests.{at, ones, sieve, table, round, stage}
 use Rattle.systems.specs.Bools.{and-T, and-left, and-right}
+use lib.Seq.{ext-getD}
 
 pub at-sieve : (p : ℕ → Bool) (i : ℕ) (X : List Bool) (j : ℕ) → at (sieve p i X) j ≡ (at X j && p (i + j))
 unfolding sieve
@@ -272,3 +273,28 @@ ones-set [] i l t = absurd (omega arith)
 ones-set (false ∷ X) zero l t = refl
 ones-set (true ∷ X) (suc i) l t = ap suc (ones-set X i (omega arith) t)
 ones-set (false ∷ X) (suc i) l t = ones-set X i (omega arith) t
+
+-- lengths of tables
+length-sieve : (p : ℕ → Bool) (i : ℕ) (X : List Bool) → length (sieve p i X) ≡ length X
+unfolding sieve
+length-sieve p i [] = refl
+length-sieve p i (b ∷ X) = ap suc (length-sieve p (suc i) X)
+
+pub length-table : (n : ℕ) (p : ℕ → Bool) → length (table n p) ≡ n
+unfolding table
+length-table n p = length-sieve p 0 (replicate n true) ∙ length-replicate n true
+
+pub length-stage : (keep : List Bool → ℕ → Bool) (X : List Bool) (n : ℕ) → length (stage keep X n) ≡ length X
+unfolding stage round
+length-stage keep X zero = refl
+length-stage keep X (suc n) = length-sieve (keep (stage keep X n)) 0 (stage keep X n) ∙ length-stage keep X n
+
+-- two tables of the same length with the same entries
+pub same-table : (X Y : List Bool) → length X ≡ length Y → ((i : ℕ) → T (at X i) ↔ T (at Y i)) → X ≡ Y
+same-table X Y l e = ext-getD false X Y l (λ i h. go (at X i) (at Y i) (e i))
+  where
+    go : (a b : Bool) → T a ↔ T b → a ≡ b
+    go true true f = refl
+    go false false f = refl
+    go true false f = absurd (f .0 tt)
+    go false true f = absurd (f .1 tt)

@@ -1,3 +1,4 @@
 pub mod Outcome
+pub mod Slices
 pub mod Broken
 pub mod Paths

@@ -16,14 +16,16 @@ use Rattle.systems.specs.Definitions.{Signature}
 use Rattle.systems.specs.Finite.{Finite-system, State, safe, pruned, step-ok, input-ok, own-ok, pair-ok, entry-ok, check}
 use Rattle.systems.specs.Safe.{safe-state, safe-keeps}
 use Rattle.systems.specs.Departure.{pruned-intro}
-use Rattle.clocks_bits.specs.Bits.{less}
-use Rattle.clocks_bits.specs.Moves.{decode}
-use Rattle.clocks_bits.specs.Packed.{packed-bit}
+use Rattle.steps.specs.declared.Step.{Step}
+use Rattle.bitmaps.specs.BitLaws.{less}
+use Rattle.bitmaps.specs.PackedLaws.{packed-bit}
+use Rattle.move_tables.specs.Moves.{decode}
 use Rattle.tables_fill.specs.FillLaws.{table-at}
+use Rattle.move_tables.specs.declared.Sides.{Sides}
 use Rattle.tables_rows.specs.Given.{Systems}
 use Rattle.tables_rows.specs.Raster.{set-at}
-use Rattle.tables_check.specs.Fault.{ok-of, fails-at, first-bad, step-fault, fault-at, row-from, table-from, picked}
-use Rattle.tables_check.specs.Judged.{breaks, least-broken, pair-fault, judged, No-fault, Lowest-fault}
+use Rattle.tables_check.specs.Fault.{ok-of, fails-at, first-bad, step, step-fault, fault-at, row-from, table-from, picked}
+use Rattle.tables_check.specs.Judged.{breaks, least-broken, pair-fault, pairs-judged, No-fault, Lowest-fault}
 use Rattle.tables_check.specs.declared.Fault.{Fault}
 use Rattle.tables_check.specs.declared.Fault.the-variants.{Fine, NotAllowed, Broken}
 use Rattle.tables_check.specs.declared.Found.{Found}
@@ -83,7 +85,7 @@ module _ (lm rm : List ℕ) (w steps : ℕ) (k : List ℕ) (s t : ℕ) where
       (omega (arith, least-passes (fails-at lm rm w steps k s t) 0 steps c (omega arith) (omega arith) b .1)))
       (T-dec (ok-of w k (getD lm (s * steps + c) 0) (getD rm (t * steps + c) 0)))
 
-not-fine : (c : ℕ) → Broken c ≡ Fine → ⊥
+not-fine : (c : Step) → Broken c ≡ Fine → ⊥
 not-fine c e = let z : _≡_ {A = ℕ} 0 1 = cc in omega arith
 
 not-fine-either : NotAllowed ≡ Fine → ⊥
@@ -97,15 +99,15 @@ step-fine p n = (forth, back)
     m : ℕ
     m = least (λ c. not (p c)) 0 n
 
-    forth : cond (ltb m n) (Broken m) Fine ≡ Fine → T (all n p)
+    forth : cond (ltb m n) (Broken (step m)) Fine ≡ Fine → T (all n p)
     forth e = all-intro n p (λ c h. ⊎-elim (λ t. t) (λ t. absurd (bad c h t)) (T-dec (p c)))
       where
         bad : (c : ℕ) → c < n → T (not (p c)) → ⊥
         bad c h t =
             let below : m < n = omega (arith, least-passes (λ c. not (p c)) 0 n c (omega arith) (omega arith) t .1) in
-            not-fine m (sym (ap (λ (b : Bool). cond b (Broken m) Fine) (lt-ltb m n below)) ∙ e)
+            not-fine (step m) (sym (ap (λ (b : Bool). cond b (Broken (step m)) Fine) (lt-ltb m n below)) ∙ e)
 
-    back : T (all n p) → cond (ltb m n) (Broken m) Fine ≡ Fine
+    back : T (all n p) → cond (ltb m n) (Broken (step m)) Fine ≡ Fine
     back a = ⊎-elim (λ h. absurd (T-not (p m) (least-found (λ c. not (p c)) 0 n (omega arith)) (all-elim n p a m h)))
         (λ h. rw (le-ltb m n h)) (less m n)
 
@@ -238,15 +240,15 @@ module _ {A : Signature} (L R : Finite-system A) (X : ℕ → ℕ → Bool) wher
       go true true f = f
 
   -- the scan passes exactly if every pair that is set has a safe s, a t whose invariant is true, and meets the rules
-  pub judged-passes : (judged L R X ≡ Passed) ↔ ((s t : ℕ) → s < L .size → t < R .size → T (entry-ok L R X s t))
-  unfolding judged
+  pub judged-passes : (pairs-judged L R X ≡ Passed) ↔ ((s t : ℕ) → s < L .size → t < R .size → T (entry-ok L R X s t))
+  unfolding pairs-judged
   judged-passes = (
     λ e s t a b. pair-fine s t .0 (scan-passes (pair-fault L R X) (L .size) (R .size) .0 e s t a b),
     λ all. scan-passes (pair-fault L R X) (L .size) (R .size) .1 (λ s t a b. pair-fine s t .1 (all s t a b)),
   )
 
   -- the theory's check: the start pair is set, and the scan passes
-  pub check-judged : T (check L R X) ↔ (T (X (L .start) (R .start)) × (judged L R X ≡ Passed))
+  pub check-judged : T (check L R X) ↔ (T (X (L .start) (R .start)) × (pairs-judged L R X ≡ Passed))
   unfolding check
   check-judged = (
     λ h.
@@ -261,9 +263,9 @@ module _ {A : Signature} (L R : Finite-system A) (X : ℕ → ℕ → Bool) wher
   )
 
   -- the scan's answer otherwise: the lowest pair that fails, with its own fault
-  pub judged-lowest : ((judged L R X ≡ Passed) × No-fault (pair-fault L R X) (L .size) (R .size)) ⊎ Lowest-fault
-      (pair-fault L R X) (L .size) (R .size) (judged L R X)
-  unfolding judged
+  pub judged-lowest : ((pairs-judged L R X ≡ Passed) × No-fault (pair-fault L R X) (L .size) (R .size)) ⊎ Lowest-fault
+      (pair-fault L R X) (L .size) (R .size) (pairs-judged L R X)
+  unfolding pairs-judged
   judged-lowest = scan-told (pair-fault L R X) (L .size) (R .size)
 
   -- at a pair, the rules for inputs and for the left's own steps come to one test
@@ -300,8 +302,17 @@ table-same f g w (suc m) s h =
     (λ i a b. h s i (omega arith) (omega arith) (omega arith))
 
 -- the scan of the slices gives what document 01 says of the table
-module _ {A : Signature} (L R : Finite-system A) (k : List ℕ) {keep holds lm rm : List ℕ} {n w steps ls rs : ℕ}
-    (G : Systems A L R keep holds lm rm n w steps ls rs) where
+module _ {A : Signature} (L R : Finite-system A) (k : List ℕ) {keep holds lm rm : List ℕ} {sides : Sides}
+    (G : Systems A L R keep holds lm rm sides) where
+  abbrev n : ℕ
+  n = sides .«left_states»
+
+  abbrev w : ℕ
+  w = sides .«right_states»
+
+  abbrev steps : ℕ
+  steps = sides .steps
+
   fails-same : (s t : ℕ) → s < n → t < w → T (safe L s) → T (R .holds t) → (c : ℕ) → c < steps
       → fails-at lm rm w steps k s t c ≡ breaks L R (set-at w k) s t c
   unfolding fails-at breaks ok-of
@@ -324,8 +335,8 @@ module _ {A : Signature} (L R : Finite-system A) (k : List ℕ) {keep holds lm r
       (λ j x y. fails-same s t hs ht a b j (omega arith)) in
       rw e (ap (λ (m : ℕ). step-fault m (least (breaks L R (set-at w k) s t) 0 m)) (G .moves .known))))
 
-  pub judged-is : table-from (fault-at lm rm keep holds w steps k) w n 0 ≡ judged L R (set-at w k)
-  unfolding judged
+  pub judged-is : table-from (fault-at lm rm keep holds w steps k) w n 0 ≡ pairs-judged L R (set-at w k)
+  unfolding pairs-judged
   judged-is =
       table-same (fault-at lm rm keep holds w steps k) (pair-fault L R (set-at w k)) w n 0
       (λ i t a b c. fault-same i t (omega arith) c)

@@ -1,12 +1,14 @@
 -- The check of a given raster, on slices: the lowest pair that fails, by row and then column.
-use mathlib.Core.Bool.{Bool, not, cond}
+use mathlib.Core.Path.{_≡_}
+use mathlib.Core.Bool.{Bool, true, false, not, cond}
 use mathlib.Core.List.{List}
-use Prim.Native.Nat.{ℕ, zero, suc, _+_, _*_}
+use Prim.Native.Nat.{ℕ, zero, suc, _+_, _*_, _≤_, _<_}
 use lib.Dec.{ltb}
 use lib.ListN.{getD}
 use Rattle.systems.specs.Tests.{stays, lands, least}
-use Rattle.clocks_bits.specs.Bits.{bit-at}
-use Rattle.clocks_bits.specs.Moves.{decode}
+use Rattle.steps.specs.declared.Step.{Step}
+use Rattle.bitmaps.specs.Bits.{bit-at}
+use Rattle.move_tables.specs.Moves.{decode}
 use Rattle.tables_rows.specs.Raster.{set-at}
 use Rattle.tables_check.specs.declared.Fault.{Fault}
 use Rattle.tables_check.specs.declared.Fault.the-variants.{Fine, NotAllowed, Broken}
@@ -26,9 +28,13 @@ module _ (lm rm : List ℕ) (w steps : ℕ) (k : List ℕ) where
   unfoldable pub first-bad : ℕ → ℕ → ℕ
   first-bad s t = least (fails-at s t) 0 steps
 
+-- the step that document 01 writes as c
+abbrev pub step : ℕ → Step
+step c = record { number = c }
+
 -- 20 with the step c, if it is one of the steps
 unfoldable pub step-fault : ℕ → ℕ → Fault
-step-fault steps c = cond (ltb c steps) (Broken c) Fine
+step-fault steps c = cond (ltb c steps) (Broken (step c)) Fine
 
 -- what the pair (s, t) fails at, if it is set: 19 before 20
 unfoldable pub fault-at : List ℕ → List ℕ → List ℕ → List ℕ → ℕ → ℕ → List ℕ → ℕ → ℕ → Fault
@@ -51,3 +57,7 @@ row-from f s (suc m) t rest = picked (f s t) s t (row-from f s m (t + 1) rest)
 unfoldable pub table-from : (ℕ → ℕ → Fault) → ℕ → ℕ → ℕ → Found
 table-from f w zero s = Passed
 table-from f w (suc m) s = row-from f s w 0 (table-from f w m (s + 1))
+
+-- no column from t to t + 7 is set in the row, if r says so
+pub record Blank (r : Bool) (row : List ℕ) (t : ℕ) : Type 0 where
+  pub unset : r ≡ true → (i : ℕ) → t ≤ i → i < t + 8 → bit-at row i ≡ false

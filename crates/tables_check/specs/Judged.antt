@@ -29,8 +29,8 @@ module _ {A : Signature} (L R : Finite-system A) (X : ℕ → ℕ → Bool) wher
       cond (X s t) (cond (safe L s && R .holds t) broken NotAllowed) Fine
 
   -- the lowest pair that fails, by row, then column
-  unfoldable pub judged : Found
-  judged = table-from pair-fault (R .size) (L .size) 0
+  unfoldable pub pairs-judged : Found
+  pairs-judged = table-from pair-fault (R .size) (L .size) 0
 
 -- no pair of n rows and w columns fails
 abbrev pub No-fault : (ℕ → ℕ → Fault) → ℕ → ℕ → Type 0

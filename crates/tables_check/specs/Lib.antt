@@ -1,4 +1,3 @@
 pub mod Exact
 pub mod Fault
 pub mod Judged
-pub mod Loops

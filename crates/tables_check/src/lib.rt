@@ -1,35 +1,43 @@
+// The check of a raster: the lowest pair, by row and then column, that has a state which may not be there or breaks a
+// rule, with the least step at which it does.
+use move_tables::Sides;
+use steps::Step;
 ghost use mathlib.Core.Path.{_≡_};
 ghost use mathlib.Core.Bool.{true, false};
 ghost use Prim.Native.Nat.{_+_, _*_, _/_, _≤_, _<_};
 ghost use lib.ListN.{length, set};
-ghost use Rattle.clocks_bits.specs.Moves.{Bounded, most-states, no-move};
-ghost use Rattle.clocks_bits.specs.Packed.{bytes};
+ghost use Rattle.move_tables.specs.Moves.{Bounded, no-move};
+ghost use Rattle.bitmaps.specs.Packed.{bytes-for};
+ghost use Rattle.tables_rows.specs.Given.{Slices};
 ghost use Rattle.tables_rows.specs.Raster.{part};
-ghost use Rattle.tables_check.specs.Loops.{Blank};
-ghost use Rattle.tables_check.specs.Fault.{ok-of, first-bad, fault-at, table-from};
+ghost use Rattle.tables_check.specs.Fault.{ok-of, first-bad, fault-at, table-from, Blank};
+ghost use Rattle.limits.specs.Limits.{state-limit};
 
 // A pair that is set: fine, or with a state that may not be there, or breaking a rule at a step.
 pub enum Fault {
     Fine,
     NotAllowed,
-    Broken(usize),
+    Broken(Step),
 }
 
+// What is found in a raster: no pair that fails, or the lowest one, with the step where it breaks a rule.
 pub enum Found {
     Passed,
     NotAllowedAt(usize, usize),
-    BrokenAt(usize, usize, usize),
+    BrokenAt(Step, usize, usize),
 }
 
+// Whether a step that leads the left to u and the right to v is matched: the left has no move, or the pair (u, v) is
+// set.
 fn step_ok(raster: &[u8], n: usize, w: usize, u: usize, v: usize) -> bool
-    requires { ⌜ (n ≤ most-states) × ((w ≤ most-states) × (((u ≡ no-move → ⊥) → u < n)
-        × (((v ≡ no-move → ⊥) → v < w) × (n * bytes w ≤ length (now raster))))) ⌝ }
+    requires { ⌜ (n ≤ state-limit) × ((w ≤ state-limit) × (((u ≡ no-move → ⊥) → u < n)
+        × (((v ≡ no-move → ⊥) → v < w) × (n * bytes-for w ≤ length (now raster))))) ⌝ }
     ensures { λ r. ⌜ r ≡ ok-of w (now (raster .entry)) u v ⌝ }
 {
-    if u == clocks_bits::NO_TARGET {
+    if u == move_tables::NO_TARGET {
         return true;
     }
-    if v == clocks_bits::NO_TARGET {
+    if v == move_tables::NO_TARGET {
         return false;
     }
     tables_rows::is_set(raster, n, w, u, v)
@@ -47,7 +55,7 @@ pub fn first_bad(
     t: usize,
 ) -> usize
     requires { ⌜ Bounded n steps (now lm) × (Bounded w steps (now rm) ×
-        ((s < n) × ((t < w) × (n * bytes w ≤ length (now raster))))) ⌝ }
+        ((s < n) × ((t < w) × (n * bytes-for w ≤ length (now raster))))) ⌝ }
     ensures { λ r. ⌜ r ≡ first-bad (now (lm .entry)) (now (rm .entry)) w steps (now (raster .entry)) s t ⌝ }
 {
     let a = s * steps;
@@ -72,31 +80,38 @@ fn fault_at(
     holds: &[u8],
     lm: &[u16],
     rm: &[u16],
-    n: usize,
-    w: usize,
-    steps: usize,
+    sides: Sides,
     s: usize,
     t: usize,
 ) -> Fault
-    requires { ⌜ Bounded n steps (now lm) × (Bounded w steps (now rm) ×
-        ((s < n) × ((t < w) × ((n * bytes w ≤ length (now raster)) × ((bytes n ≤ length (now keep))
-        × ((bytes w ≤ length (now holds)) × ((bytes w ≤ length (now row))
-        × (now row ≡ part (bytes w) s (now raster))))))))) ⌝ }
-    ensures { λ r. ⌜ r ≡ fault-at (now (lm .entry)) (now (rm .entry)) (now (keep .entry)) (now (holds .entry)) w steps
-        (now (raster .entry)) s t ⌝ }
+    requires { ⌜ Slices (now keep) (now holds) (now lm) (now rm) sides
+        × ((s < sides .«left_states») × ((t < sides .«right_states»)
+        × ((sides .«left_states» * bytes-for (sides .«right_states») ≤ length (now raster))
+        × (now row ≡ part (bytes-for (sides .«right_states»)) s (now raster))))) ⌝ }
+    ensures { λ r. ⌜ r ≡ fault-at (now (lm .entry)) (now (rm .entry)) (now (keep .entry)) (now (holds .entry))
+        (sides .«right_states») (sides .steps) (now (raster .entry)) s t ⌝ }
 {
-    if !clocks_bits::get(row, t) {
+    if !bitmaps::get(row, t) {
         return Fault::Fine;
     }
-    if !clocks_bits::get(keep, s) {
+    if !bitmaps::get(keep, s) {
         return Fault::NotAllowed;
     }
-    if !clocks_bits::get(holds, t) {
+    if !bitmaps::get(holds, t) {
         return Fault::NotAllowed;
     }
-    let c = first_bad(raster, lm, rm, n, w, steps, s, t);
-    if c < steps {
-        return Fault::Broken(c);
+    let c = first_bad(
+        raster,
+        lm,
+        rm,
+        sides.left_states,
+        sides.right_states,
+        sides.steps,
+        s,
+        t,
+    );
+    if c < sides.steps {
+        return Fault::Broken(Step { number: c });
     }
     Fault::Fine
 }
@@ -113,22 +128,16 @@ fn is_blank(row: &[u8], t: usize) -> bool
 }
 
 // The lowest pair that fails, by row and then column.
-pub fn scan(
-    raster: &[u8],
-    keep: &[u8],
-    holds: &[u8],
-    lm: &[u16],
-    rm: &[u16],
-    n: usize,
-    w: usize,
-    steps: usize,
-) -> Found
-    requires { ⌜ Bounded n steps (now lm) × (Bounded w steps (now rm) ×
-        ((n * bytes w ≤ length (now raster)) × ((bytes n ≤ length (now keep)) × (bytes w ≤ length (now holds))))) ⌝ }
+pub fn scan(raster: &[u8], keep: &[u8], holds: &[u8], lm: &[u16], rm: &[u16], sides: Sides) -> Found
+    requires { ⌜ Slices (now keep) (now holds) (now lm) (now rm) sides
+        × (sides .«left_states» * bytes-for (sides .«right_states») ≤ length (now raster)) ⌝ }
     ensures { λ r. ⌜ r ≡ table-from (fault-at (now (lm .entry)) (now (rm .entry)) (now (keep .entry))
-        (now (holds .entry)) w steps (now (raster .entry))) w n 0 ⌝ }
+        (now (holds .entry)) (sides .«right_states») (sides .steps) (now (raster .entry))) (sides .«right_states»)
+        (sides .«left_states») 0 ⌝ }
 {
-    let b = (w + 7) / 8;
+    let n = sides.left_states;
+    let w = sides.right_states;
+    let b = bitmaps::bytes_for(w);
     let mut s: usize = 0;
     let found = 'rows: loop {
         if n <= s {
@@ -143,14 +152,14 @@ pub fn scan(
                 t += 8;
                 continue 'columns;
             }
-            let f = fault_at(row, raster, keep, holds, lm, rm, n, w, steps, s, t);
+            let f = fault_at(row, raster, keep, holds, lm, rm, sides, s, t);
             match f {
                 Fault::Fine => {}
                 Fault::NotAllowed => {
                     break 'rows Found::NotAllowedAt(s, t);
                 }
-                Fault::Broken(c) => {
-                    break 'rows Found::BrokenAt(c, s, t);
+                Fault::Broken(step) => {
+                    break 'rows Found::BrokenAt(step, s, t);
                 }
             }
             t += 1;

@@ -9,9 +9,9 @@ use lib.Arith.{digits-div, digits-mod}
 use lib.ListN.{replicate}
 use lib.Seq.{ext-getD}
 use Rattle.systems.specs.Tests.{at, ones, sieve, table}
-use Rattle.clocks_bits.specs.Bits.{num}
-use Rattle.clocks_bits.specs.Packed.{packed-bit}
-use Rattle.clocks_safe.specs.Settle.{length-table}
+use Rattle.bitmaps.specs.Bits.{num}
+use Rattle.bitmaps.specs.PackedLaws.{packed-bit}
+use Rattle.systems.specs.Sieve.{length-table}
 use Rattle.tables_fill.specs.FillLaws.{table-at}
 use Rattle.tables_rows.specs.Raster.{set-at, denoted, Raster}
 use Rattle.tables_rows.specs.RasterLaws.{row-at}

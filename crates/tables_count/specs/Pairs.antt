@@ -2,7 +2,7 @@
 use mathlib.Core.Bool.{Bool}
 use Prim.Native.Nat.{ℕ, zero, suc, _+_, _-_, _/_, _%_, _^_}
 use lib.Dec.{eqb}
-use Rattle.clocks_bits.specs.Bits.{num}
+use Rattle.bitmaps.specs.Bits.{num}
 
 -- how many of the numbers below n pass
 unfoldable pub passing : (ℕ → Bool) → ℕ → ℕ

@@ -4,8 +4,8 @@ use mathlib.Core.List.{List}
 use Prim.Native.Nat.{ℕ, _*_, _/_, _%_}
 use lib.Dec.{ltb}
 use Rattle.systems.specs.Tests.{at, table}
-use Rattle.clocks_bits.specs.Bits.{bit-at}
-use Rattle.clocks_bits.specs.Packed.{Packed}
+use Rattle.bitmaps.specs.Bits.{bit-at}
+use Rattle.bitmaps.specs.Packed.{Packed}
 use Rattle.tables_rows.specs.Raster.{Raster}
 
 -- the first s rows have the pairs, the others none

@@ -6,7 +6,8 @@ use Prim.Native.Char.{code}
 use Prim.Native.String.{String}
 use lib.Dec.{eqb, ltb}
 use lib.ListN.{length, getD}
-use Rattle.clocks_bits.specs.Packed.{bytes}
+use Rattle.limits.specs.Limits.{state-limit, keep-limit}
+use Rattle.bitmaps.specs.Packed.{bytes-for}
 
 -- a string's bytes
 abbrev pub ascii : String → List ℕ
@@ -26,19 +27,36 @@ digits (suc k) n = elim (ltb n 10) [ true ↦ digit n ∷ [] | false ↦ digits 
 unfoldable pub decimal : ℕ → List ℕ
 decimal n = digits (suc n) n
 
+-- `P4` and LF, the space between the numbers, and the LF at the end
+abbrev pub magic-line : List ℕ
+magic-line = ascii "P4\n"
+
+abbrev pub space : List ℕ
+space = ascii " "
+
+abbrev pub line-end : List ℕ
+line-end = ascii "\n"
+
+abbrev pub magic-bytes : ℕ
+magic-bytes = length magic-line
+
 -- `P4`, LF, W, one space, H, LF; W the right states, H the left states
 unfoldable pub header : ℕ → ℕ → List ℕ
-header w h = ascii "P4\n" ++ (decimal w ++ (ascii " " ++ (decimal h ++ ascii "\n")))
+header w h = magic-line ++ (decimal w ++ (space ++ (decimal h ++ line-end)))
 
 unfoldable pub header-bytes : ℕ → ℕ → ℕ
 header-bytes w h = length (header w h)
 
 -- h rows of ceil(w / 8) bytes
 abbrev pub raster-bytes : ℕ → ℕ → ℕ
-raster-bytes w h = h * bytes w
+raster-bytes w h = h * bytes-for w
 
 unfoldable pub table-bytes : ℕ → ℕ → ℕ
 table-bytes w h = header-bytes w h + raster-bytes w h
+
+-- the bytes of the largest table
+abbrev pub table-limit : ℕ
+table-limit = magic-bytes + 2 * (4 + 1) + state-limit * keep-limit
 
 -- the bytes t begin with the bytes p
 unfoldable pub begins : List ℕ → List ℕ → Bool

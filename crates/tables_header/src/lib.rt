@@ -1,14 +1,33 @@
-// The header of a table file and the length of the file. W counts the right states, H the left states.
+// The header of a table file, a Netpbm raw PBM, and the length of the file; w is the number of right states, h that of
+// left states.
+use limits::KEEP_LIMIT;
+use limits::STATE_LIMIT;
 ghost use mathlib.Core.Path.{_≡_};
 ghost use Prim.Native.Nat.{_+_, _≤_, _<_};
 ghost use mathlib.Core.List.{_++_};
 ghost use lib.ListN.{length, getD, drop};
-ghost use Rattle.tables_header.specs.Header.{ascii, decimal, header, header-bytes, table-bytes, begins, fits};
-ghost use Rattle.clocks_bits.specs.Moves.{most-states};
+ghost use Rattle.tables_header.specs.Header.{magic-line, magic-bytes, decimal, header, header-bytes, table-bytes, begins, fits};
+ghost use Rattle.limits.specs.Limits.{state-limit};
+
+// The first line, `P4` and its end, takes so many bytes.
+const MAGIC_BYTES: usize = 3;
+
+// The bytes of the longest header and of the largest table: both numbers have four digits, and behind each stands one
+// byte.
+const MOST_DIGITS: usize = 4;
+
+const HEADER_LIMIT: usize = MAGIC_BYTES + 2 * (MOST_DIGITS + 1);
+
+pub const TABLE_LIMIT: usize = HEADER_LIMIT + STATE_LIMIT * KEEP_LIMIT;
+
+// What stands between the numbers, and at the end of a line.
+const SPACE: u8 = b' ';
+
+const LINE_END: u8 = b'\n';
 
 // How many decimal digits n has.
 fn digit_count(n: usize) -> usize
-    requires { ⌜ n ≤ most-states ⌝ }
+    requires { ⌜ n ≤ state-limit ⌝ }
     ensures { λ r. ⌜ r ≡ length (decimal n) ⌝ }
 {
     let mut rest = n;
@@ -22,7 +41,7 @@ fn digit_count(n: usize) -> usize
 
 // Digit i of n in decimal, from the left.
 fn digit_at(n: usize, i: usize) -> u8
-    requires { ⌜ (n ≤ most-states) × (i < length (decimal n)) ⌝ }
+    requires { ⌜ (n ≤ state-limit) × (i < length (decimal n)) ⌝ }
     ensures { λ r. ⌜ r ≡ getD (decimal n) i 0 ⌝ }
 {
     let mut rest = n;
@@ -36,16 +55,16 @@ fn digit_at(n: usize, i: usize) -> u8
 
 // How many bytes the header takes.
 pub fn header_length(w: usize, h: usize) -> usize
-    requires { ⌜ (w ≤ most-states) × (h ≤ most-states) ⌝ }
+    requires { ⌜ (w ≤ state-limit) × (h ≤ state-limit) ⌝ }
     ensures { λ r. ⌜ r ≡ header-bytes w h ⌝ }
 {
-    5 + digit_count(w) + digit_count(h)
+    MAGIC_BYTES + digit_count(w) + 1 + digit_count(h) + 1
 }
 
-// The bytes in front of the numbers.
+// Byte i of the first line.
 fn magic(i: usize) -> u8
-    requires { ⌜ i < 3 ⌝ }
-    ensures { λ r. ⌜ r ≡ getD (ascii "P4\n") i 0 ⌝ }
+    requires { ⌜ i < magic-bytes ⌝ }
+    ensures { λ r. ⌜ r ≡ getD magic-line i 0 ⌝ }
 {
     if i == 0 {
         return b'P';
@@ -53,34 +72,34 @@ fn magic(i: usize) -> u8
     if i == 1 {
         return b'4';
     }
-    b'\n'
+    LINE_END
 }
 
 // Byte i of the header.
 fn header_byte(w: usize, h: usize, i: usize) -> u8
-    requires { ⌜ (w ≤ most-states) × ((h ≤ most-states) × (i < header-bytes w h)) ⌝ }
+    requires { ⌜ (w ≤ state-limit) × ((h ≤ state-limit) × (i < header-bytes w h)) ⌝ }
     ensures { λ r. ⌜ r ≡ getD (header w h) i 0 ⌝ }
 {
-    if i < 3 {
+    if i < MAGIC_BYTES {
         return magic(i);
     }
-    let a = 3 + digit_count(w);
+    let a = MAGIC_BYTES + digit_count(w);
     if i < a {
-        return digit_at(w, i - 3);
+        return digit_at(w, i - MAGIC_BYTES);
     }
     if i == a {
-        return b' ';
+        return SPACE;
     }
     let b = a + 1;
     if i - b < digit_count(h) {
         return digit_at(h, i - b);
     }
-    b'\n'
+    LINE_END
 }
 
 // Writes the header into the front of the table.
 pub fn write_header(table: &mut [u8], w: usize, h: usize)
-    requires { ⌜ (w ≤ most-states) × ((h ≤ most-states) × (header-bytes w h ≤ length (now table))) ⌝ }
+    requires { ⌜ (w ≤ state-limit) × ((h ≤ state-limit) × (header-bytes w h ≤ length (now table))) ⌝ }
     ensures { λ _. ⌜ now (table .exit) ≡ header w h ++ drop (header-bytes w h) (now (table .entry)) ⌝ }
 {
     let size = header_length(w, h);
@@ -93,7 +112,7 @@ pub fn write_header(table: &mut [u8], w: usize, h: usize)
 
 // Whether the table begins with exactly the header's bytes.
 pub fn has_header(table: &[u8], w: usize, h: usize) -> bool
-    requires { ⌜ (w ≤ most-states) × (h ≤ most-states) ⌝ }
+    requires { ⌜ (w ≤ state-limit) × (h ≤ state-limit) ⌝ }
     ensures { λ r. ⌜ r ≡ begins (header w h) (now (table .entry)) ⌝ }
 {
     let size = header_length(w, h);
@@ -114,15 +133,15 @@ pub fn has_header(table: &[u8], w: usize, h: usize) -> bool
 
 // How many bytes a table takes, header and raster.
 pub fn table_length(w: usize, h: usize) -> usize
-    requires { ⌜ (w ≤ most-states) × (h ≤ most-states) ⌝ }
+    requires { ⌜ (w ≤ state-limit) × (h ≤ state-limit) ⌝ }
     ensures { λ r. ⌜ r ≡ table-bytes w h ⌝ }
 {
-    header_length(w, h) + h * ((w + 7) / 8)
+    header_length(w, h) + h * bitmaps::bytes_for(w)
 }
 
 // Document 01's 16 does not apply: the header and the total length are those of w right and h left states.
 pub fn is_table(table: &[u8], w: usize, h: usize) -> bool
-    requires { ⌜ (w ≤ most-states) × (h ≤ most-states) ⌝ }
+    requires { ⌜ (w ≤ state-limit) × (h ≤ state-limit) ⌝ }
     ensures { λ r. ⌜ r ≡ fits w h (now (table .entry)) ⌝ }
 {
     if !has_header(table, w, h) {

@@ -6,24 +6,24 @@ use lib.ListN.{length}
 use Rattle.systems.specs.Tests.{table}
 use Rattle.systems.specs.Definitions.{Signature}
 use Rattle.systems.specs.Finite.{Finite-system, safe-states}
-use Rattle.clocks_bits.specs.Moves.{Bounded}
-use Rattle.clocks_bits.specs.Given.{Given}
-use Rattle.clocks_bits.specs.Packed.{Packed, Bitmap, bytes}
+use Rattle.move_tables.specs.declared.Sides.{Sides}
+use Rattle.move_tables.specs.Moves.{Bounded}
+use Rattle.move_tables.specs.Given.{Given}
+use Rattle.bitmaps.specs.Packed.{Packed, Bitmap, bytes-for}
 
--- what the loops need of the slices: n left and w right states, the starts among them, moves that stay among them
-pub record Slices (keep holds lm rm : List ℕ) (n w steps ls rs : ℕ) : Type 0 where
-  pub left : Bounded n steps lm
-  pub right : Bounded w steps rm
-  pub left-start : ls < n
-  pub right-start : rs < w
-  pub safe-room : bytes n ≤ length keep
-  pub true-bits : Bitmap w holds
+-- what the loops need of the slices: the starts are among the states, and so are the targets of all moves
+pub record Slices (keep holds lm rm : List ℕ) (sides : Sides) : Type 0 where
+  pub left : Bounded (sides .«left_states») (sides .steps) lm
+  pub right : Bounded (sides .«right_states») (sides .steps) rm
+  pub left-start : sides .«left_start» < sides .«left_states»
+  pub right-start : sides .«right_start» < sides .«right_states»
+  pub safe-room : bytes-for (sides .«left_states») ≤ length keep
+  pub true-bits : Bitmap (sides .«right_states») holds
 
 -- the moves, the starts, the safe states of the left in keep, the right states whose invariant is true in holds
-pub record Systems (A : Signature) (L R : Finite-system A) (keep holds lm rm : List ℕ) (n w steps ls rs : ℕ) : Type 0
-  where
-    pub moves : Given A L R lm rm n w steps
-    pub left-start : L .start ≡ ls
-    pub right-start : R .start ≡ rs
-    pub safe-bits : Packed n (safe-states L) keep keep
-    pub true-bits : Packed w (table w (R .holds)) holds holds
+pub record Systems (A : Signature) (L R : Finite-system A) (keep holds lm rm : List ℕ) (sides : Sides) : Type 0 where
+  pub moves : Given A L R lm rm (sides .«left_states») (sides .«right_states») (sides .steps)
+  pub left-start : L .start ≡ sides .«left_start»
+  pub right-start : R .start ≡ sides .«right_start»
+  pub safe-bits : Packed (sides .«left_states») (safe-states L) keep keep
+  pub true-bits : Packed (sides .«right_states») (table (sides .«right_states») (R .holds)) holds holds

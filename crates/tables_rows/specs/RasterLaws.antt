@@ -4,7 +4,7 @@ use mathlib.Core.Logic.{⊎-elim, _≢_}
 use mathlib.Core.Bool.{Bool, true, false}
 use mathlib.Core.List.{List, _++_}
 use Prim.Native.Nat.{ℕ, _+_, _-_, _*_, _/_, _%_, _^_, _≤_, _<_}
-use native.Mathlib.Nat.{mul-le-mul-right, add-mul, div-add-mod', mod-lt, div-lt-iff-lt-mul}
+use native.Mathlib.Nat.{mul-le-mul-right, mul-le-mul-left, add-mul, div-add-mod', mod-lt, div-lt-iff-lt-mul}
 use native.Mathlib.Decide.{ℕ-discrete}
 use native.Mathlib.Omega.{arith}
 use lib.Arith.{digits-lt, digits-div, digits-mod}
@@ -12,20 +12,39 @@ use borrow.Author.Tests.{lt-ltb, le-ltb}
 use lib.ListN.{length, getD, set, take, drop, length-append, length-drop, length-set, List·getD-append, List·getD-eq-default}
 use lib.Seq.{ext-getD, getD-take, getD-drop, length-take-le, getD-append-add, getD-set-other, take-set-lt, take-set-le, drop-set-lt, drop-set-add}
 use Rattle.systems.specs.Tests.{at, table}
-use Rattle.clocks_bits.specs.Bits.{bit-at, byte-of, byte-same, written, written-is, written-at, written-past, written-length, less}
-use Rattle.clocks_bits.specs.Moves.{most-states}
-use Rattle.clocks_bits.specs.Packed.{Packed, packed, packed-bit, packed-clear, packed-self, bytes}
-use Rattle.tables_rows.specs.Raster.{Raster, in-row, part, raster, raster-of, row, set-at, without}
+use Rattle.bitmaps.specs.Bits.{byte-of, written}
+use Rattle.bitmaps.specs.BitLaws.{byte-same, written-is, written-at, written-past, written-length, less}
+use Rattle.bitmaps.specs.PackedLaws.{packed-bit, packed-clear, packed-self}
+use Rattle.bitmaps.specs.Packed.{Packed, packed, bytes-for}
+use Rattle.tables_rows.specs.Raster.{Raster, in-row, part, raster, raster-limit, raster-of, row, set-at, without}
+use Rattle.limits.specs.Limits.{state-limit, keep-limit, pair-limit}
 
 -- a row's end, in entries or in bytes
 pub row-end : (n b s : ℕ) → s < n → s * b + b ≤ n * b
 row-end n b s h = omega (arith, mul-le-mul-right b (let q : s + 1 ≤ n = omega arith in q), add-mul s 1 b)
 
-pub row-few : (n w s : ℕ) → n ≤ most-states → w ≤ most-states → s < n → s * bytes w + bytes w ≤ 2097152
-row-few n w s h k l = omega (arith, row-end n (bytes w) s l, mul-le-mul-right (bytes w) h, few (bytes w) (omega arith))
+-- the bytes of a raster, the end of a row in it, and the pairs, where the states are within their limit
+pub raster-few : (n w : ℕ) → n ≤ state-limit → w ≤ state-limit → n * bytes-for w ≤ raster-limit
+raster-few n w h k = omega (arith, mul-le-mul-right (bytes-for w) h, few (bytes-for w) (omega arith))
   where
-    few : (b : ℕ) → b ≤ 512 → 4096 * b ≤ 2097152
+    few : (b : ℕ) → b ≤ keep-limit → state-limit * b ≤ raster-limit
     few b q = omega arith
+
+pub row-inside : (n w s b : ℕ) → b ≡ bytes-for w → s < n → s * b + b ≤ n * bytes-for w
+row-inside n w s b e l = rw e (row-end n (bytes-for w) s l)
+
+pub row-few : (n w s b : ℕ) → b ≡ bytes-for w → n ≤ state-limit → w ≤ state-limit → s < n → s * b + b ≤ raster-limit
+row-few n w s b e h k l = omega (arith, row-inside n w s b e l, raster-few n w h k)
+
+pub pairs-few : (n w : ℕ) → n ≤ state-limit → w ≤ state-limit → n * w ≤ pair-limit
+pairs-few n w h k = omega (arith, mul-le-mul-right w h, mul-le-mul-left state-limit k)
+
+-- the bytes from row s to its end are the row
+pub part-between : (w s b : ℕ) (k : List ℕ) → b ≡ bytes-for w → take (s * b + b - s * b) (drop (s * b) k)
+    ≡ part (bytes-for w) s k
+part-between w s b k e =
+    let f : s * b + b - s * b ≡ b = omega arith in
+    ap (λ (x : ℕ). take x (drop (s * b) k)) f ∙ ap (λ (x : ℕ). part x s k) e
 
 pub part-length : (n b : ℕ) (k : List ℕ) (s : ℕ) → n * b ≤ length k → s < n → length (part b s k) ≡ b
 part-length n b k s h l = length-take-le b (drop (s * b) k) (rw (length-drop (s * b) k)
@@ -41,23 +60,6 @@ part-at b k s i h = getD-take b (drop (s * b) k) i 0 h ∙ getD-drop (s * b) k i
 pub row-at : (w : ℕ) (X : List Bool) (s t : ℕ) → t < w → at (row w X s) t ≡ at X (s * w + t)
 row-at w X s t h = getD-take w (drop (s * w) X) t false h ∙ getD-drop (s * w) X t false
 
--- the pair (s, t) among all bits, bit i: it is in byte t / 8 of row s
-module _ (w : ℕ) (k : List ℕ) (s t i : ℕ) (place : i ≡ 8 * (s * bytes w) + t) where
-  in-byte : i / 8 ≡ s * bytes w + t / 8
-  in-byte = omega arith
-
-  at-bit : i % 8 ≡ t % 8
-  at-bit = omega arith
-
-  pub place-bit : t < w → bit-at k i ≡ set-at w k s t
-  unfolding bit-at
-  place-bit h = let inside : t / 8 < bytes w = omega arith in
-      rw (in-byte, at-bit, part-at (bytes w) k s (t / 8) inside)
-
-  pub place-without : set k (i / 8) (getD k (i / 8) 0 - 2 ^ (7 - i % 8)) ≡ without w k s t
-  unfolding without
-  place-without = rw (in-byte, at-bit)
-
 row-past : (n w : ℕ) (X : List Bool) (s t : ℕ) → length X ≡ n * w → s < n → w ≤ t → at (row w X s) t ≡ false
 row-past n w X s t h l m = List·getD-eq-default (row w X s) false (rw (row-length n w X s h l) m)
 
@@ -70,49 +72,52 @@ row-in n w X s t h l = ⊎-elim (λ m. rw (lt-ltb t w m) (row-at w X s t m))
 pub raster-is : {n w : ℕ} {X : List Bool} {d k : List ℕ} → 0 < w → Raster n w X d k → k ≡ raster-of n w X d
 unfolding raster-of raster written packed
 raster-is {n} {w} {X} {d} {k} p R =
-    written-is (λ i. byte-of (in-row w X (i / bytes w)) (i % bytes w)) (n * bytes w) k d (R .room) (R .sized) inside
+    written-is (λ i. byte-of (in-row w X (i / bytes-for w)) (i % bytes-for w)) (n * bytes-for w) k d (R .room)
+    (R .sized) inside
     (R .past)
   where
-    wide : 0 < bytes w
+    wide : 0 < bytes-for w
     wide = omega arith
 
-    inside : (i : ℕ) → i < n * bytes w → getD k i 0 ≡ byte-of (in-row w X (i / bytes w)) (i % bytes w)
+    inside : (i : ℕ) → i < n * bytes-for w → getD k i 0 ≡ byte-of (in-row w X (i / bytes-for w)) (i % bytes-for w)
     inside i h =
-        let s = i / bytes w in
-        let t = i % bytes w in
-        let l : t < bytes w = mod-lt i wide in
+        let s = i / bytes-for w in
+        let t = i % bytes-for w in
+        let l : t < bytes-for w = mod-lt i wide in
         let m : s < n = div-lt-iff-lt-mul wide .1 h in
-        let e : s * bytes w + t ≡ i = div-add-mod' i (bytes w) in
-        ap (λ (x : ℕ). getD k x 0) (sym e) ∙ sym (part-at (bytes w) k s t l)
+        let e : s * bytes-for w + t ≡ i = div-add-mod' i (bytes-for w) in
+        ap (λ (x : ℕ). getD k x 0) (sym e) ∙ sym (part-at (bytes-for w) k s t l)
         ∙ ap (λ (y : List ℕ). getD y t 0) (R .rows s m .is)
-        ∙ written-at (byte-of (at (row w X s))) (bytes w) (part (bytes w) s k) t l
+        ∙ written-at (byte-of (at (row w X s))) (bytes-for w) (part (bytes-for w) s k) t l
         ∙ byte-same (at (row w X s)) (in-row w X s) t (λ j q. row-in n w X s (8 * t + j) (R .long) m)
 
 -- the raster of a table is such a raster
-pub raster-rows : {n w : ℕ} {X : List Bool} (d : List ℕ) → length X ≡ n * w → n * bytes w ≤ length d
+pub raster-rows : {n w : ℕ} {X : List Bool} (d : List ℕ) → length X ≡ n * w → n * bytes-for w ≤ length d
     → Raster n w X d (raster-of n w X d)
 unfolding raster-of raster written packed
 raster-rows {n} {w} {X} d long room =
-    let byte : ℕ → ℕ = λ i. byte-of (in-row w X (i / bytes w)) (i % bytes w) in
-    let k = written byte (n * bytes w) d in
-    let size : length k ≡ length d = written-length byte (n * bytes w) d room in
+    let byte : ℕ → ℕ = λ i. byte-of (in-row w X (i / bytes-for w)) (i % bytes-for w) in
+    let k = written byte (n * bytes-for w) d in
+    let size : length k ≡ length d = written-length byte (n * bytes-for w) d room in
     record {
       long = long;
       room = room;
       sized = size;
-      rows = λ s h. let l : length (part (bytes w) s k) ≡ bytes w = part-length n (bytes w) k s (omega arith) h in
+      rows = λ s h. let l : length (part (bytes-for w) s k) ≡ bytes-for w = part-length n (bytes-for w) k s
+          (omega arith) h in
           record {
             long = row-length n w X s long h;
             room = omega arith;
-            is = written-is (byte-of (at (row w X s))) (bytes w) (part (bytes w) s k) (part (bytes w) s k) (omega arith)
+            is = written-is (byte-of (at (row w X s))) (bytes-for w) (part (bytes-for w) s k) (part (bytes-for w) s k)
+                (omega arith)
                 refl
-                (λ i q. part-at (bytes w) k s i q
-                ∙ written-at byte (n * bytes w) d (s * bytes w + i) (digits-lt h q)
+                (λ i q. part-at (bytes-for w) k s i q
+                ∙ written-at byte (n * bytes-for w) d (s * bytes-for w + i) (digits-lt h q)
                 ∙ rw (digits-div s q, digits-mod s q)
                 (sym (byte-same (at (row w X s)) (in-row w X s) i (λ j z. row-in n w X s (8 * i + j) long h))))
                 (λ i q. refl);
           };
-      past = written-past byte (n * bytes w) d;
+      past = written-past byte (n * bytes-for w) d;
     }
 
 -- a part put back
@@ -150,54 +155,55 @@ module _ (a b : ℕ) (k y : List ℕ) (fits : a + b ≤ length k) (long : length
 
 -- a raster with row s replaced
 module _ {n w : ℕ} {X : List Bool} {d k : List ℕ} (R : Raster n w X d k) (s : ℕ) (h : s < n) (Z : List Bool)
-    (y : List ℕ) (lz : length Z ≡ n * w) (here : Packed w (row w Z s) y y) (ly : length y ≡ bytes w)
+    (y : List ℕ) (lz : length Z ≡ n * w) (here : Packed w (row w Z s) y y) (ly : length y ≡ bytes-for w)
     (other : (i : ℕ) → i < n → i ≢ s → row w Z i ≡ row w X i) where
-  fits : s * bytes w + bytes w ≤ length k
-  fits = omega (arith, R .sized, R .room, row-end n (bytes w) s h)
+  fits : s * bytes-for w + bytes-for w ≤ length k
+  fits = omega (arith, R .sized, R .room, row-end n (bytes-for w) s h)
 
-  pub raster-put : Raster n w Z d (take (s * bytes w) k ++ (y ++ drop (bytes w) (drop (s * bytes w) k)))
+  pub raster-put : Raster n w Z d (take (s * bytes-for w) k ++ (y ++ drop (bytes-for w) (drop (s * bytes-for w) k)))
   unfolding put
   raster-put = record {
     long = lz;
     room = R .room;
-    sized = put-length (s * bytes w) (bytes w) k y fits ly ∙ R .sized;
+    sized = put-length (s * bytes-for w) (bytes-for w) k y fits ly ∙ R .sized;
     rows = λ i l. elim (ℕ-discrete i s) [ yes e ↦ same i e | no e ↦ differ i l e ];
-    past = λ i l. put-after (s * bytes w) (bytes w) k y fits ly i (omega (arith, row-end n (bytes w) s h))
+    past = λ i l. put-after (s * bytes-for w) (bytes-for w) k y fits ly i (omega (arith, row-end n (bytes-for w) s h))
         ∙ R .past i l;
   }
     where
       new : List ℕ
-      new = take (s * bytes w) k ++ (y ++ drop (bytes w) (drop (s * bytes w) k))
+      new = take (s * bytes-for w) k ++ (y ++ drop (bytes-for w) (drop (s * bytes-for w) k))
 
-      room : n * bytes w ≤ length new
-      room = omega (arith, put-length (s * bytes w) (bytes w) k y fits ly, R .sized, R .room)
+      room : n * bytes-for w ≤ length new
+      room = omega (arith, put-length (s * bytes-for w) (bytes-for w) k y fits ly, R .sized, R .room)
 
-      part-here : part (bytes w) s new ≡ y
-      part-here = ext-getD 0 (part (bytes w) s new) y (part-length n (bytes w) new s room h ∙ sym ly)
-          (λ i l. let m : i < bytes w = omega (arith, part-length n (bytes w) new s room h) in
-          part-at (bytes w) new s i m ∙ put-in (s * bytes w) (bytes w) k y fits ly i m)
+      part-here : part (bytes-for w) s new ≡ y
+      part-here = ext-getD 0 (part (bytes-for w) s new) y (part-length n (bytes-for w) new s room h ∙ sym ly)
+          (λ i l. let m : i < bytes-for w = omega (arith, part-length n (bytes-for w) new s room h) in
+          part-at (bytes-for w) new s i m ∙ put-in (s * bytes-for w) (bytes-for w) k y fits ly i m)
 
-      same : (i : ℕ) → i ≡ s → Packed w (row w Z i) (part (bytes w) i new) (part (bytes w) i new)
+      same : (i : ℕ) → i ≡ s → Packed w (row w Z i) (part (bytes-for w) i new) (part (bytes-for w) i new)
       same i e = rw (e, part-here) here
 
-      old : n * bytes w ≤ length k
+      old : n * bytes-for w ≤ length k
       old = omega (arith, R .sized, R .room)
 
-      outside : (i j : ℕ) → i < n → i ≢ s → j < bytes w → getD new (i * bytes w + j) 0 ≡ getD k (i * bytes w + j) 0
-      outside i j l e m = ⊎-elim (λ a. put-before (s * bytes w) (bytes w) k y fits ly (i * bytes w + j)
-          (digits-lt a m)) (λ a. put-after (s * bytes w) (bytes w) k y fits ly (i * bytes w + j)
-          (omega (arith, mul-le-mul-right (bytes w) (above a), add-mul s 1 (bytes w)))) (less i s)
+      outside : (i j : ℕ) → i < n → i ≢ s → j < bytes-for w → getD new (i * bytes-for w + j) 0 ≡ getD k
+          (i * bytes-for w + j) 0
+      outside i j l e m = ⊎-elim (λ a. put-before (s * bytes-for w) (bytes-for w) k y fits ly (i * bytes-for w + j)
+          (digits-lt a m)) (λ a. put-after (s * bytes-for w) (bytes-for w) k y fits ly (i * bytes-for w + j)
+          (omega (arith, mul-le-mul-right (bytes-for w) (above a), add-mul s 1 (bytes-for w)))) (less i s)
         where
           above : s ≤ i → s + 1 ≤ i
           above a = ⊎-elim (λ b. absurd (e (omega arith))) (λ b. b) (less i (s + 1))
 
-      part-else : (i : ℕ) → i < n → i ≢ s → part (bytes w) i new ≡ part (bytes w) i k
-      part-else i l e = ext-getD 0 (part (bytes w) i new) (part (bytes w) i k)
-          (part-length n (bytes w) new i room l ∙ sym (part-length n (bytes w) k i old l))
-          (λ j m. let q : j < bytes w = omega (arith, part-length n (bytes w) new i room l) in
-          part-at (bytes w) new i j q ∙ outside i j l e q ∙ sym (part-at (bytes w) k i j q))
+      part-else : (i : ℕ) → i < n → i ≢ s → part (bytes-for w) i new ≡ part (bytes-for w) i k
+      part-else i l e = ext-getD 0 (part (bytes-for w) i new) (part (bytes-for w) i k)
+          (part-length n (bytes-for w) new i room l ∙ sym (part-length n (bytes-for w) k i old l))
+          (λ j m. let q : j < bytes-for w = omega (arith, part-length n (bytes-for w) new i room l) in
+          part-at (bytes-for w) new i j q ∙ outside i j l e q ∙ sym (part-at (bytes-for w) k i j q))
 
-      differ : (i : ℕ) → i < n → i ≢ s → Packed w (row w Z i) (part (bytes w) i new) (part (bytes w) i new)
+      differ : (i : ℕ) → i < n → i ≢ s → Packed w (row w Z i) (part (bytes-for w) i new) (part (bytes-for w) i new)
       differ i l e = rw (part-else i l e, other i l e) (R .rows i l)
 
 -- entry i of row s set, in a list of rows of b entries: that row
@@ -231,26 +237,27 @@ module _ {n w : ℕ} {X : List Bool} {d k : List ℕ} (R : Raster n w X d k) (s 
   raster-without was = record {
     long = length-set X (s * w + t) false ∙ R .long;
     room = R .room;
-    sized = length-set k (s * bytes w + t / 8) new ∙ R .sized;
+    sized = length-set k (s * bytes-for w + t / 8) new ∙ R .sized;
     rows = λ i l. elim (ℕ-discrete i s) [ yes e ↦ rw e here | no e ↦ there i l e ];
-    past = λ i l. getD-set-other k (s * bytes w + t / 8) i new 0 (λ e. omega (arith, row-end n (bytes w) s hs))
+    past = λ i l. getD-set-other k (s * bytes-for w + t / 8) i new 0 (λ e. omega (arith, row-end n (bytes-for w) s hs))
         ∙ R .past i l;
   }
     where
-      inside : t / 8 < bytes w
+      inside : t / 8 < bytes-for w
       inside = omega arith
 
       new : ℕ
-      new = getD k (s * bytes w + t / 8) 0 - 2 ^ (7 - t % 8)
+      new = getD k (s * bytes-for w + t / 8) 0 - 2 ^ (7 - t % 8)
 
-      here : Packed w (row w (set X (s * w + t) false) s) (part (bytes w) s (set k (s * bytes w + t / 8) new))
-          (part (bytes w) s (set k (s * bytes w + t / 8) new))
+      here : Packed w (row w (set X (s * w + t) false) s) (part (bytes-for w) s (set k (s * bytes-for w + t / 8) new))
+          (part (bytes-for w) s (set k (s * bytes-for w + t / 8) new))
       here = rw (
         row-set w X s t false ht,
-        row-set (bytes w) k s (t / 8) new inside,
-        ← part-at (bytes w) k s (t / 8) inside,
+        row-set (bytes-for w) k s (t / 8) new inside,
+        ← part-at (bytes-for w) k s (t / 8) inside,
       ) (packed-self (packed-clear (R .rows s hs) t ht (row-at w X s t ht ∙ was)))
 
       there : (i : ℕ) → i < n → i ≢ s → Packed w (row w (set X (s * w + t) false) i)
-          (part (bytes w) i (set k (s * bytes w + t / 8) new)) (part (bytes w) i (set k (s * bytes w + t / 8) new))
-      there i l e = rw (row-kept w X s t i false ht e, row-kept (bytes w) k s (t / 8) i new inside e) (R .rows i l)
+          (part (bytes-for w) i (set k (s * bytes-for w + t / 8) new)) (part (bytes-for w) i (set k
+          (s * bytes-for w + t / 8) new))
+      there i l e = rw (row-kept w X s t i false ht e, row-kept (bytes-for w) k s (t / 8) i new inside e) (R .rows i l)

@@ -1,3 +1,4 @@
+pub mod TableFile
 pub mod Answer
 pub mod Exact
 pub mod Parts

@@ -10,8 +10,8 @@ use Rattle.systems.specs.Sieve.{Between}
 use Rattle.systems.specs.Definitions.{Signature}
 use Rattle.systems.specs.Finite.{Finite-system, pairs, widest}
 use Rattle.systems.specs.Refinement.{pair-rule}
-use Rattle.clocks_bits.specs.Moves.{decode, Bounded}
-use Rattle.clocks_bits.specs.Given.{Given}
+use Rattle.move_tables.specs.Moves.{decode, Bounded}
+use Rattle.move_tables.specs.Given.{Given}
 use Rattle.tables_rows.specs.Raster.{Raster, Table, set-at}
 
 -- what a sweep needs of the slices

@@ -1,7 +1,10 @@
+// The widest table: a raster filled with all pairs, from which the pairs that break a rule are taken out until none
+// does.
+use move_tables::Sides;
 ghost use mathlib.Core.Path.{_≡_};
 ghost use Prim.Native.Nat.{ℕ, _+_, _-_, _*_, _/_, _≤_, _<_};
 ghost use lib.ListN.{length, set};
-ghost use Rattle.clocks_bits.specs.Packed.{bytes};
+ghost use Rattle.bitmaps.specs.Packed.{bytes-for};
 ghost use Rattle.tables_rows.specs.Raster.{set-at};
 ghost use Rattle.tables_rows.specs.Given.{Slices};
 ghost use Rattle.tables_widest.specs.Sweep.{Sweepable, Sweeps, bit-in, Kept-before, Matched, Columns-matched, Row-matched, Counted, Settled};
@@ -58,12 +61,12 @@ fn sweep_byte(
     s: usize,
     j: usize,
 ) -> usize
-    requires { ⌜ Sweepable n w steps (now lm) (now rm) (now raster) × ((s < n) × (j < bytes w)) ⌝ }
+    requires { ⌜ Sweepable n w steps (now lm) (now rm) (now raster) × ((s < n) × (j < bytes-for w)) ⌝ }
     ensures { λ r. ⌜ Sweeps (now (lm .entry)) (now (rm .entry)) n w steps
         (Columns-matched (now (lm .entry)) (now (rm .entry)) w steps s (8 * j) (8 * j + 8)) (now (raster .entry))
         (now (raster .exit)) r ⌝ }
 {
-    let byte = raster[s * ((w + 7) / 8) + j];
+    let byte = raster[s * bitmaps::bytes_for(w) + j];
     if byte == 0 {
         return 0;
     }
@@ -92,7 +95,7 @@ fn sweep_row(
         (Row-matched (now (lm .entry)) (now (rm .entry)) w steps s 0) (now (raster .entry)) (now (raster .exit)) r ⌝ }
 {
     let mut r: usize = 0;
-    let mut j = (w + 7) / 8;
+    let mut j = bitmaps::bytes_for(w);
     while 0 < j {
         j -= 1;
         r += sweep_byte(raster, lm, rm, n, w, steps, s, j);
@@ -102,26 +105,21 @@ fn sweep_row(
 
 // Sweeps from the last row to the first until one takes nothing out; `count`
 // pairs are set before, and the number that is left is returned.
-pub fn settle(
-    raster: &mut [u8],
-    lm: &[u16],
-    rm: &[u16],
-    n: usize,
-    w: usize,
-    steps: usize,
-    count: usize,
-) -> usize
-    requires { ⌜ Sweepable n w steps (now lm) (now rm) (now raster) × Counted n w (now raster) count ⌝ }
-    ensures { λ r. ⌜ Settled (now (lm .entry)) (now (rm .entry)) n w steps (now (raster .entry)) (now (raster .exit)) r
-        ⌝ }
+pub fn settle(raster: &mut [u8], lm: &[u16], rm: &[u16], sides: Sides, count: usize) -> usize
+    requires { ⌜ Sweepable (sides .«left_states») (sides .«right_states») (sides .steps) (now lm) (now rm) (now raster)
+        × Counted (sides .«left_states») (sides .«right_states») (now raster) count ⌝ }
+    ensures { λ r. ⌜ Settled (now (lm .entry)) (now (rm .entry)) (sides .«left_states») (sides .«right_states»)
+        (sides .steps) (now (raster .entry)) (now (raster .exit)) r ⌝ }
 {
+    let n = sides.left_states;
+    let w = sides.right_states;
     let mut left = count;
     loop {
         let before = left;
         let mut s = n;
         while 0 < s {
             s -= 1;
-            left -= sweep_row(raster, lm, rm, n, w, steps, s);
+            left -= sweep_row(raster, lm, rm, n, w, sides.steps, s);
         }
         if left == before {
             break;
@@ -131,7 +129,7 @@ pub fn settle(
 }
 
 // The number of pairs set, and whether the start pair is one of them.
-pub struct Answer {
+pub struct WidestTable {
     pub count: usize,
     pub start: bool,
 }
@@ -144,20 +142,18 @@ pub fn widest(
     holds: &[u8],
     lm: &[u16],
     rm: &[u16],
-    n: usize,
-    w: usize,
-    steps: usize,
-    ls: usize,
-    rs: usize,
-) -> Answer
-    requires { ⌜ Slices (now keep) (now holds) (now lm) (now rm) n w steps ls rs
-        × (n * bytes w ≤ length (now raster)) ⌝ }
-    ensures { λ r. ⌜ Widest-answers (now (keep .entry)) (now (holds .entry)) (now (lm .entry)) (now (rm .entry)) n w
-        steps ls rs (now (raster .entry)) (now (raster .exit)) (r .count) (r .start) ⌝ }
+    sides: Sides,
+) -> WidestTable
+    requires { ⌜ Slices (now keep) (now holds) (now lm) (now rm) sides
+        × (sides .«left_states» * bytes-for (sides .«right_states») ≤ length (now raster)) ⌝ }
+    ensures { λ r. ⌜ Widest-answers (now (keep .entry)) (now (holds .entry)) (now (lm .entry)) (now (rm .entry)) sides
+        (now (raster .entry)) (now (raster .exit)) (r .count) (r .start) ⌝ }
 {
+    let n = sides.left_states;
+    let w = sides.right_states;
     tables_fill::fill(raster, keep, holds, n, w);
     let count = tables_count::pairs(raster, n, w);
-    let left = settle(raster, lm, rm, n, w, steps, count);
-    let start = tables_rows::is_set(raster, n, w, ls, rs);
-    Answer { count: left, start }
+    let left = settle(raster, lm, rm, sides, count);
+    let start = tables_rows::is_set(raster, n, w, sides.left_start, sides.right_start);
+    WidestTable { count: left, start }
 }

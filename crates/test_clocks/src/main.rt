@@ -1,10 +1,19 @@
 // Reads texts from standard input, a `#` between two, and writes what reading and the safe-state operation give for
 // each. What is expected comes from tests/make_cases.py, by a plain enumeration written from document 01.
-use clocks_read::ReadAnswer;
 use refusals::Refusal;
+use refusals::Verdict;
 use safe_states::SafeAnswer;
 ghost use Prim.Native.Nat.{_≤_, _<_};
 ghost use lib.ListN.{length};
+
+// `#`, the byte between two texts.
+const BETWEEN: u8 = 35;
+
+// What a keep is filled with before the operation, so that bytes that it leaves alone are seen.
+const FILL: u8 = 170;
+
+// How many bytes of a keep with room for every text are shown.
+const SHOWN: usize = 7;
 
 fn put(n: usize) {
     io::write_all(1, b" ");
@@ -21,11 +30,11 @@ fn refusal(f: Refusal) {
 
 // What reading gives: the refusal, or the state count.
 fn show_read(text: &[u8]) {
-    let r = clocks_read::read(text);
+    let r = operations::read(text);
     let a = r.answer;
     match a {
-        ReadAnswer::Refused(f) => refusal(f),
-        ReadAnswer::Accepted => {
+        Verdict::Refused(f) => refusal(f),
+        Verdict::Accepted => {
             io::write_all(1, b" states");
             put(r.states);
         }
@@ -54,7 +63,7 @@ fn show_bytes(s: &[u8], n: usize)
 
 // What the safe-state operation gives.
 fn show_safe(text: &[u8], keep: &mut [u8]) {
-    let a = safe_states::safe_states(text, keep);
+    let a = operations::safe_states(text, keep);
     match a {
         SafeAnswer::Refused(f) => refusal(f),
         SafeAnswer::Found(count, start) => {
@@ -65,17 +74,17 @@ fn show_safe(text: &[u8], keep: &mut [u8]) {
     }
 }
 
-// One text: reading, the operation with a keep of one byte, and with one of 512, whose first seven bytes are shown.
+// One text: reading, the operation with a keep of one byte, and with one with room for every text, whose first bytes are shown.
 fn show(text: &[u8]) {
     show_read(text);
     io::write_all(1, b" |");
-    let mut short = [170u8; 1];
+    let mut short = [FILL; 1];
     show_safe(text, &mut short);
     show_bytes(&short, 1);
     io::write_all(1, b" |");
-    let mut keep = [170u8; 512];
+    let mut keep = [FILL; limits::KEEP_LIMIT];
     show_safe(text, &mut keep);
-    show_bytes(&keep, 7);
+    show_bytes(&keep, SHOWN);
     io::write_all(1, b"\n");
 }
 
@@ -86,7 +95,7 @@ fn text_end(s: &[u8], from: usize) -> usize
 {
     let mut at = from;
     while at < s.len() {
-        if s[at] == 35 {
+        if s[at] == BETWEEN {
             return at;
         }
         at += 1;

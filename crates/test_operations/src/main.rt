@@ -167,7 +167,7 @@ fn search_case(
     line: &mut [u32],
     run: &mut [u32],
 ) {
-    let answer = search::search(left, right, keep, back, line, run);
+    let answer = operations::search(left, right, keep, back, line, run);
     let kept = put_searched(answer);
     put_keep(keep);
     programs::put(b" run ");
@@ -179,7 +179,7 @@ fn search_case(
 }
 
 fn check_case(left: &[u8], right: &[u8], keep: &mut [u8], table: &[u8]) {
-    let answer = tables::check(left, right, keep, table);
+    let answer = operations::check(left, right, keep, table);
     match answer {
         CheckAnswer::Refused(f) => put_refused(f),
         CheckAnswer::Accepted(count) => {
@@ -199,7 +199,7 @@ fn put_flag(b: bool) {
 }
 
 fn widest_case(left: &[u8], right: &[u8], keep: &mut [u8], table: &mut [u8]) {
-    let answer = tables::widest(left, right, keep, table);
+    let answer = operations::widest(left, right, keep, table);
     match answer {
         WidestAnswer::Refused(f) => put_refused(f),
         WidestAnswer::Made(count, start) => {

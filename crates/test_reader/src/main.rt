@@ -3,7 +3,13 @@
 // A line feed comes between.
 ghost use Prim.Native.Nat.{_+_, _≤_, _<_};
 ghost use lib.ListN.{length};
-use reader_record::LARGEST_TEXT;
+use limits::LARGEST_TEXT;
+
+// The bytes after a text: `%`, how it is read, and a line feed.
+const END_BYTES: usize = 3;
+
+// So many texts are told apart by their number.
+const LAST_NUMBER: u64 = 1000;
 
 // The place of the first `%` from `at` on, or the end.
 fn text_end(s: &[u8], at: usize) -> usize
@@ -73,13 +79,13 @@ fn texts(s: &[u8]) {
     let mut k: u64 = 1;
     while at < s.len() {
         let e = text_end(s, at);
-        if s.len() - e < 3 {
+        if s.len() - e < END_BYTES {
             return;
         }
         io::print_decimal(1, k);
         show_as(&s[at..e], s[e + 1]);
-        at = e + 3;
-        if k < 1000 {
+        at = e + END_BYTES;
+        if k < LAST_NUMBER {
             k += 1;
         }
     }

@@ -7,43 +7,44 @@ use lib.ListN.{length, replicate}
 use Rattle.refusals.specs.declared.Refusal.{Refusal}
 use Rattle.reader_record.specs.declared.Text.{Text}
 use Rattle.reader_record.specs.Formed.{Well-formed}
-use Rattle.clocks_bits.specs.Bits.{tab-from, written}
-use Rattle.clocks_bits.specs.Packed.{bytes, packed}
-use Rattle.clocks.specs.States.{state-count, start-state, input, table-entry, table-size, invariants}
-use Rattle.clocks_read.specs.declared.ReadAnswer.the-variants as read
+use Rattle.bitmaps.specs.Bits.{tab-from, written}
+use Rattle.bitmaps.specs.Packed.{bytes-for, packed}
+use Rattle.clocks.specs.States.{state-count, start-state, input, invariants}
+use Rattle.clocks.specs.Encoding.{table-entry, table-size}
+use Rattle.refusals.specs.Refusals.{right-file}
+use Rattle.refusals.specs.declared.Verdict.the-variants as verdict
 use Rattle.clocks_read.specs.declared.Reading.{Reading}
 use Rattle.clocks_read.specs.Reading.{read-outcome}
-use Rattle.pairing.specs.Channels.{right-file, unmatched, most-steps}
+use Rattle.pairing.specs.Channels.{unmatched}
 use Rattle.pairing.specs.Table.{renumbered}
-use Rattle.two_texts.specs.declared.TwoAnswer.the-variants.{Accepted, Refused}
-use Rattle.two_texts.specs.declared.Two.{Two}
+use Rattle.refusals.specs.declared.Verdict.the-variants.{Accepted, Refused}
+use Rattle.move_tables.specs.declared.Sides.{Sides}
+use Rattle.two_texts.specs.declared.TwoTexts.{TwoTexts}
 use Rattle.two_texts.specs.Two.{text-of, refused-in, refused-pairing, or-else, step-of}
 use Rattle.two_texts.specs.Loaded.{refusal-in}
-use Rattle.reader_record.specs.Limits.{state-limit}
+use Rattle.limits.specs.Limits.{step-limit, state-limit}
 
 -- beside a refusal all numbers are 0 and no step is an input
-unfoldable pub refused : Refusal → Two
+unfoldable pub refused : Refusal → TwoTexts
 refused f = record {
   answer = Refused f;
-  «left_states» = 0;
-  «right_states» = 0;
-  steps = 0;
-  «left_start» = 0;
-  «right_start» = 0;
-  inputs = replicate most-steps false;
+  sides = record { «left_states» = 0; «right_states» = 0; steps = 0; «left_start» = 0; «right_start» = 0 };
+  inputs = replicate step-limit false;
 }
 
--- the numbers of two accepted texts
-unfoldable pub accepted : Text → Text → Two
-accepted l r = record {
-  answer = Accepted;
+-- the sizes and starts of two accepted texts
+unfoldable pub sides-of : Text → Text → Sides
+sides-of l r = record {
   «left_states» = state-count l;
   «right_states» = state-count r;
   steps = l .«channel_count» + 1;
   «left_start» = start-state l;
   «right_start» = start-state r;
-  inputs = tab-from (input l) 0 most-steps;
 }
+
+-- the numbers of two accepted texts
+unfoldable pub accepted : Text → Text → TwoTexts
+accepted l r = record { answer = Accepted; sides = sides-of l r; inputs = tab-from (input l) 0 step-limit }
 
 -- a text with its state count, within the limit
 pub record Sized (t : Text) (n : ℕ) : Type 0 where
@@ -54,7 +55,7 @@ pub record Sized (t : Text) (n : ℕ) : Type 0 where
 -- the reading r of the text s, which is accepted
 pub record Accepted-reading (s : List ℕ) (r : Reading) : Type 0 where
   pub same : r ≡ read-outcome s
-  pub accepted : r .answer ≡ read.Accepted
+  pub accepted : r .answer ≡ verdict.Accepted
 
 -- the slices of an accepted text, written over what was there
 pub record Filled (t : Text) (moves holds : List ℕ) : Type 0 where
@@ -62,7 +63,7 @@ pub record Filled (t : Text) (moves holds : List ℕ) : Type 0 where
   pub room : table-size t ≤ length over
   pub moves-are : moves ≡ written (table-entry t) (table-size t) over
   pub under : List ℕ
-  pub long : bytes (state-count t) ≤ length under
+  pub long : bytes-for (state-count t) ≤ length under
   pub holds-are : holds ≡ packed (state-count t) (invariants t) under
 
 -- how many entries the right's table has by the left's steps
@@ -73,12 +74,12 @@ size-by-left left right = state-count (text-of right) * (text-of left .«channel
 unfoldable pub by-left : List ℕ → List ℕ → List ℕ → List ℕ → List ℕ
 by-left left right own d =
     written
-    (renumbered own (tab-from (step-of left right) 0 most-steps) (text-of right .«channel_count» + 1)
+    (renumbered own (tab-from (step-of left right) 0 step-limit) (text-of right .«channel_count» + 1)
     (text-of left .«channel_count» + 1))
     (size-by-left left right) d
 
 -- pairing the channels: code 12, else the numbers, and `before` with the right's table `own` by the left's steps
-pub record Paired (left right own before after : List ℕ) (t : Two) : Type 0 where
+pub record Paired (left right own before after : List ℕ) (t : TwoTexts) : Type 0 where
   pub judged : refused-pairing (unmatched left (text-of left) right (text-of right)) ≡ refusal-in (t .answer)
   pub numbers : t .answer ≡ Accepted → t ≡ accepted (text-of left) (text-of right)
   pub moves : t .answer ≡ Accepted → after ≡ by-left left right own before
@@ -92,7 +93,7 @@ pub record Right-filled (left right moves holds : List ℕ) : Type 0 where
   pub moves-are : moves ≡ by-left left right own before
 
 -- loading the right after the left was accepted: codes 2 to 11 of the right, then 12
-pub record Right-loaded (left right moves holds : List ℕ) (t : Two) : Type 0 where
+pub record Right-loaded (left right moves holds : List ℕ) (t : TwoTexts) : Type 0 where
   pub judged :
       or-else (refused-in right-file (read-outcome right .answer))
       (refused-pairing (unmatched left (text-of left) right (text-of right)))

@@ -8,15 +8,16 @@ use Rattle.refusals.specs.declared.Refusal.{Refusal}
 use Rattle.systems.specs.Bools.{none-some}
 use Rattle.clocks.specs.Judgement.{input-known}
 use Rattle.clocks.specs.Contract.{signature}
-use Rattle.clocks_read.specs.declared.ReadAnswer.{ReadAnswer}
-use Rattle.clocks_read.specs.declared.ReadAnswer.the-variants as read
+use Rattle.refusals.specs.declared.Verdict.{Verdict}
+use Rattle.refusals.specs.declared.Verdict.the-variants as verdict
 use Rattle.clocks_read.specs.Reading.{read-outcome}
 use Rattle.clocks_read.specs.Laws.{read-accepted}
 use Rattle.pairing.specs.declared.Matched.{Matched}
 use Rattle.pairing.specs.declared.Matched.the-variants.{Equal, Unmatched}
-use Rattle.pairing.specs.Channels.{left-file, right-file, Equal-channels, unmatched}
-use Rattle.pairing.specs.Equal.{Well-named, read-named, equal-when-nothing, step-input}
-use Rattle.two_texts.specs.Two.{text-of, too-long-in, refused-in, refused-pairing, or-else, two-judged, Compared, judged-by}
+use Rattle.pairing.specs.Channels.{Equal-channels, unmatched, Well-named}
+use Rattle.refusals.specs.Refusals.{left-file, right-file}
+use Rattle.pairing.specs.Equal.{read-named, equal-when-nothing, step-input}
+use Rattle.two_texts.specs.Two.{text-of, too-long-in, refused-in, refused-pairing, or-else, texts-judged, channels-judged, two-judged, Compared, judged-by}
 
 -- nothing is found exactly when no judgement finds anything
 or-none : (a b : Option Refusal) → none ≡ or-else a b → (a ≡ none) × (none ≡ b)
@@ -24,10 +25,10 @@ unfolding or-else
 or-none none b e = (refl, e)
 or-none (some r) b e = none-some r e
 
-refused-none : (file : ℕ) (a : ReadAnswer) → refused-in file a ≡ none → a ≡ read.Accepted
+refused-none : (file : ℕ) (a : Verdict) → refused-in file a ≡ none → a ≡ verdict.Accepted
 unfolding refused-in
-refused-none file read.Accepted e = refl
-refused-none file (read.Refused r) e = none-some _ (sym e)
+refused-none file verdict.Accepted e = refl
+refused-none file (verdict.Refused r) e = none-some _ (sym e)
 
 pairing-none : (m : Matched) → none ≡ refused-pairing m → m ≡ Equal
 unfolding refused-pairing
@@ -36,25 +37,25 @@ pairing-none (Unmatched r) e = none-some r e
 
 -- what is known of the texts where codes 1 to 12 find nothing
 pub record Judged (left right : List ℕ) : Type 0 where
-  pub left-read : read-outcome left .answer ≡ read.Accepted
-  pub right-read : read-outcome right .answer ≡ read.Accepted
+  pub left-read : read-outcome left .answer ≡ verdict.Accepted
+  pub right-read : read-outcome right .answer ≡ verdict.Accepted
   pub equal : unmatched left (text-of left) right (text-of right) ≡ Equal
 
 pub judged-none : (left right : List ℕ) → none ≡ two-judged left right → Judged left right
-unfolding two-judged
+unfolding two-judged texts-judged channels-judged
 judged-none left right e =
-    let (a, f) = or-none (too-long-in left-file left) _ e in
+    let (t, i) = or-none (texts-judged left right) _ e in
+    let (a, f) = or-none (too-long-in left-file left) _ (sym t) in
     let (b, g) = or-none (too-long-in right-file right) _ f in
-    let (c, h) = or-none (refused-in left-file (read-outcome left .answer)) _ g in
-    let (d, i) = or-none (refused-in right-file (read-outcome right .answer)) _ h in
+    let (c, d) = or-none (refused-in left-file (read-outcome left .answer)) _ g in
     record {
       left-read = refused-none left-file (read-outcome left .answer) c;
-      right-read = refused-none right-file (read-outcome right .answer) d;
+      right-read = refused-none right-file (read-outcome right .answer) (sym d);
       equal = pairing-none _ i;
     }
 
 -- the names of an accepted text are within it and differ
-pub named : (s : List ℕ) → read-outcome s .answer ≡ read.Accepted → Well-named s (text-of s)
+pub named : (s : List ℕ) → read-outcome s .answer ≡ verdict.Accepted → Well-named s (text-of s)
 named s e = let r = read-accepted s e in rw (r .same) (read-named s (r .parsed))
 
 pub channels-equal : (left right : List ℕ) → Judged left right

@@ -8,69 +8,72 @@ use native.Mathlib.Omega.{arith}
 use lib.ListN.{length}
 use borrow.Author.Tests.{lt-ltb, le-ltb}
 use Rattle.refusals.specs.declared.Refusal.{Refusal}
-use Rattle.refusals.specs.Refusals.{in-file, text-too-long}
+use Rattle.refusals.specs.Refusals.{in-file, text-too-long, left-file, right-file}
 use Rattle.systems.specs.Bools.{none-some}
 use Rattle.reader_record.specs.declared.Text.{Text}
-use Rattle.reader_record.specs.Limits.{largest-text, state-limit}
 use Rattle.reader_record.specs.Formed.{Well-formed}
-use Rattle.clocks_bits.specs.Bits.{tab-from, written, written-length}
-use Rattle.clocks.specs.States.{state-count, start-state, input, table-entry, table-size}
+use Rattle.bitmaps.specs.Bits.{tab-from, written}
+use Rattle.bitmaps.specs.BitLaws.{written-length}
+use Rattle.clocks.specs.Encoding.{table-entry, table-size}
+use Rattle.clocks_table.specs.Room.{Room}
+use Rattle.clocks.specs.States.{state-count, start-state, input}
 use Rattle.clocks.specs.Accepted as accepted
 use Rattle.clocks.specs.Judgement.{judgement-few}
-use Rattle.clocks_table.specs.Judge.{Room}
-use Rattle.clocks_read.specs.declared.ReadAnswer.the-variants as read
 use Rattle.clocks_read.specs.declared.Reading.{Reading}
-use Rattle.clocks_read.specs.Reading.{read-outcome, Loading, load-outcome}
+use Rattle.clocks_read.specs.Reading.{read-outcome, Loading, load-outcome, loading}
 use Rattle.clocks_read.specs.Laws.{read-accepted, load-reading, load-moves, load-holds}
-use Rattle.clocks_read.specs.Paths.{loading}
 use Rattle.pairing.specs.declared.Matched.the-variants.{Equal, Unmatched}
 use Rattle.pairing.specs.declared.Pairing.{Pairing}
-use Rattle.pairing.specs.Channels.{left-file, right-file, unmatched, pairing, most-steps}
+use Rattle.pairing.specs.Channels.{unmatched, pairing}
 use Rattle.pairing.specs.Table.{renumbered, Renumbering}
 use Rattle.pairing.specs.Counts.{equally-many}
-use Rattle.two_texts.specs.declared.TwoAnswer.the-variants.{Accepted, Refused}
-use Rattle.two_texts.specs.declared.Two.{Two}
-use Rattle.two_texts.specs.Two.{text-of, too-long-in, refused-in, refused-pairing, or-else, two-judged, step-of}
+use Rattle.refusals.specs.declared.Verdict.the-variants.{Accepted, Refused}
+use Rattle.move_tables.specs.declared.Sides.{Sides}
+use Rattle.two_texts.specs.declared.TwoTexts.{TwoTexts}
+use Rattle.two_texts.specs.Two.{text-of, too-long-in, refused-in, refused-pairing, or-else, texts-judged, channels-judged, two-judged, step-of}
 use Rattle.two_texts.specs.Laws.{Judged, judged-none, named}
 use Rattle.two_texts.specs.Loaded.{refusal-in, Loads}
-use Rattle.two_texts.specs.Answers.{refused, accepted as accepted-two, Sized, Accepted-reading, by-left, Filled, Paired, Right-loaded}
+use Rattle.two_texts.specs.Answers.{refused, sides-of, accepted as accepted-two, Sized, Accepted-reading, by-left, Filled, Paired, Right-loaded}
 use Rattle.two_texts.specs.Tables.{table-fits, step-below, map-at, both-loaded}
+use Rattle.limits.specs.Limits.{largest-text, state-limit, step-limit}
 
 -- a refusal is not an acceptance
-refused-never : {P : Type 0} (f : Refusal) (t : Two) → t ≡ refused f → t .answer ≡ Accepted → P
+refused-never : {P : Type 0} (f : Refusal) (t : TwoTexts) → t ≡ refused f → t .answer ≡ Accepted → P
 unfolding refused refusal-in
-refused-never f t e a = none-some f (ap refusal-in (sym a ∙ ap (λ (x : Two). x .answer) e))
+refused-never f t e a = none-some f (ap refusal-in (sym a ∙ ap (λ (x : TwoTexts). x .answer) e))
 
-refusal-of : (f : Refusal) (t : Two) → t ≡ refused f → some f ≡ refusal-in (t .answer)
+refusal-of : (f : Refusal) (t : TwoTexts) → t ≡ refused f → some f ≡ refusal-in (t .answer)
 unfolding refused refusal-in
 refusal-of f t e = rw e
 
-accepted-none : (t : Two) → t .answer ≡ Accepted → refusal-in (t .answer) ≡ none
+accepted-none : (t : TwoTexts) → t .answer ≡ Accepted → refusal-in (t .answer) ≡ none
 unfolding refusal-in
 accepted-none t e = rw e
 
-numbers-none : (t : Two) (l r : Text) → t ≡ accepted-two l r → none ≡ refusal-in (t .answer)
+numbers-none : (t : TwoTexts) (l r : Text) → t ≡ accepted-two l r → none ≡ refusal-in (t .answer)
 unfolding refusal-in accepted-two
 numbers-none t l r e = rw e
 
 -- the numbers
-pub numbers-done : (l r : Text) (ln rn ls rs : ℕ) (i : List Bool) → Sized l ln → Sized r rn
-    → ls ≡ start-state l → rs ≡ start-state r → i ≡ tab-from (input l) 0 most-steps
-    → _≡_ {A = Two} (record {
-      answer = Accepted;
+pub sides-done : (l r : Text) (ln rn ls rs : ℕ) → Sized l ln → Sized r rn → ls ≡ start-state l → rs ≡ start-state r
+    → _≡_ {A = Sides} (record {
       «left_states» = ln;
       «right_states» = rn;
       steps = l .«channel_count» + 1;
       «left_start» = ls;
       «right_start» = rs;
-      inputs = i;
-    }) (accepted-two l r)
+    }) (sides-of l r)
+unfolding sides-of
+sides-done l r ln rn ls rs a b p q = rw (a .count, b .count, p, q)
+
+pub numbers-done : (l r : Text) (s : Sides) (i : List Bool) → s ≡ sides-of l r → i ≡ tab-from (input l) 0 step-limit
+    → _≡_ {A = TwoTexts} (record { answer = Accepted; sides = s; inputs = i }) (accepted-two l r)
 unfolding accepted-two
-numbers-done l r ln rn ls rs i a b p q e = rw (a .count, b .count, p, q, e)
+numbers-done l r s i p q = rw (p, q)
 
 -- an accepted reading
 module _ (s : List ℕ) (r : Reading) (R : Accepted-reading s r) where
-  pub answer-is : read-outcome s .answer ≡ read.Accepted
+  pub answer-is : read-outcome s .answer ≡ Accepted
   answer-is = sym (ap (λ (x : Reading). x .answer) (R .same)) ∙ R .accepted
 
   pub text-is : r .text ≡ text-of s
@@ -103,11 +106,11 @@ module _ (left : List ℕ) (l : Reading) (right : List ℕ) (r : Reading) (L : A
   unfolding pairing
   match-is = ap (λ (x : Pairing). x .answer) pairing-is
 
-  map-is : p .map ≡ tab-from (step-of left right) 0 most-steps
+  map-is : p .map ≡ tab-from (step-of left right) 0 step-limit
   unfolding pairing
   map-is = ap (λ (x : Pairing). x .map) pairing-is
 
-  pub paired-refused : (d : List ℕ) (f : Refusal) (t : Two) → p .answer ≡ Unmatched f → t ≡ refused f
+  pub paired-refused : (d : List ℕ) (f : Refusal) (t : TwoTexts) → p .answer ≡ Unmatched f → t ≡ refused f
       → Paired left right d d d t
   unfolding refused-pairing
   paired-refused d f t a q = record {
@@ -128,7 +131,7 @@ module _ (left : List ℕ) (l : Reading) (right : List ℕ) (r : Reading) (L : A
     many = equally-many left (text-of left) right (text-of right) (named left (both-judged .left-read))
         (named right (both-judged .right-read)) (both-judged .equal)
 
-    pub paired-renumbers : (d : List ℕ) → r .states * most-steps ≤ length d
+    pub paired-renumbers : (d : List ℕ) → r .states * step-limit ≤ length d
         → Renumbering (length d) (p .map) (r .states) (l .text .«channel_count» + 1)
     paired-renumbers d k =
         let wl = reading-accepted left l L in
@@ -142,7 +145,7 @@ module _ (left : List ℕ) (l : Reading) (right : List ℕ) (r : Reading) (L : A
               (omega (arith, step-below left right both-judged c m, many));
         })
 
-    pub paired-accepted : (d after : List ℕ) (t : Two)
+    pub paired-accepted : (d after : List ℕ) (t : TwoTexts)
         → after ≡ written (renumbered d (p .map) (l .text .«channel_count» + 1) (l .text .«channel_count» + 1))
         (r .states * (l .text .«channel_count» + 1)) d
         → t ≡ accepted-two (l .text) (r .text)
@@ -161,12 +164,12 @@ module _ (s m h : List ℕ) (r : Reading) (m′ h′ : List ℕ) (e : loading r 
   pub reading-is : r ≡ read-outcome s
   reading-is = ap (λ (x : Loading). x .reading) e ∙ load-reading s m h
 
-  loaded-refused : (file : ℕ) (f : Refusal) → r .answer ≡ read.Refused f
+  loaded-refused : (file : ℕ) (f : Refusal) → r .answer ≡ Refused f
       → refused-in file (read-outcome s .answer) ≡ some (in-file file f)
   unfolding refused-in
   loaded-refused file f a = rw (sym (ap (λ (x : Reading). x .answer) reading-is) ∙ a)
 
-  module _ (a : r .answer ≡ read.Accepted) where
+  module _ (a : r .answer ≡ Accepted) where
     pub loaded-reading : Accepted-reading s r
     loaded-reading = record { same = reading-is; accepted = a }
 
@@ -182,7 +185,7 @@ module _ (s m h : List ℕ) (r : Reading) (m′ h′ : List ℕ) (e : loading r 
       loaded-few : n ≤ state-limit
       loaded-few = omega (arith, c, judgement-few (text-of s) (reading-accepted s r loaded-reading .clean))
 
-      loaded-most : state-count (text-of s) * most-steps ≤ length m
+      loaded-most : state-count (text-of s) * step-limit ≤ length m
       loaded-most = rw (sym c) (k .table loaded-few)
 
       loaded-room : table-size (text-of s) ≤ length m
@@ -202,18 +205,18 @@ module _ (s m h : List ℕ) (r : Reading) (m′ h′ : List ℕ) (e : loading r 
       }
 
       -- the table keeps its length
-      loaded-long : state-count (text-of s) * most-steps ≤ length m′
+      loaded-long : state-count (text-of s) * step-limit ≤ length m′
       loaded-long =
           let l = written-length (table-entry (text-of s)) (table-size (text-of s)) m loaded-room in
           omega (arith, loaded-most, ap length loaded-moves, l)
 
-      pub loaded-wide : r .states * most-steps ≤ length m′
+      pub loaded-wide : r .states * step-limit ≤ length m′
       loaded-wide = rw (states-are s r loaded-reading) loaded-long
 
 -- the paths after the right is loaded
 module _ (left : List ℕ) (l : Reading) (L : Accepted-reading left l) (right m h : List ℕ) (r : Reading)
     (own h′ : List ℕ) (e : loading r own h′ ≡ load-outcome right m h) where
-  pub right-refused : (d : List ℕ) (f g : Refusal) (t : Two) → r .answer ≡ read.Refused f
+  pub right-refused : (d : List ℕ) (f g : Refusal) (t : TwoTexts) → r .answer ≡ Refused f
       → g ≡ in-file right-file f → t ≡ refused g
       → Right-loaded left right d h′ t
   unfolding or-else
@@ -223,7 +226,7 @@ module _ (left : List ℕ) (l : Reading) (L : Accepted-reading left l) (right m 
     filled = refused-never g t z;
   }
 
-  pub right-paired : (d : List ℕ) (t : Two) → r .answer ≡ read.Accepted
+  pub right-paired : (d : List ℕ) (t : TwoTexts) → r .answer ≡ Accepted
       → (n : ℕ) → n ≡ state-count (text-of right) → Room n (length m) (length h)
       → Paired left right own own d t → Right-loaded left right d h′ t
   unfolding or-else
@@ -244,30 +247,30 @@ module _ (left : List ℕ) (l : Reading) (L : Accepted-reading left l) (right m 
 
 -- the paths of the whole
 module _ (left right : List ℕ) where
-  loads-refused : (lm rm lh rh : List ℕ) (f : Refusal) (t : Two) → two-judged left right ≡ some f → t ≡ refused f
+  loads-refused : (lm rm lh rh : List ℕ) (f : Refusal) (t : TwoTexts) → two-judged left right ≡ some f → t ≡ refused f
       → Loads left right lm rm lh rh t
   loads-refused lm rm lh rh f t j e = record { judged = j ∙ refusal-of f t e; loaded = λ c. refused-never f t e }
 
-  pub left-too-long : (lm rm lh rh : List ℕ) (t : Two) → largest-text < length left
+  pub left-too-long : (lm rm lh rh : List ℕ) (t : TwoTexts) → largest-text < length left
       → t ≡ refused (in-file left-file text-too-long) → Loads left right lm rm lh rh t
-  unfolding two-judged too-long-in or-else
+  unfolding two-judged texts-judged channels-judged too-long-in or-else
   left-too-long lm rm lh rh t h e =
       loads-refused lm rm lh rh (in-file left-file text-too-long) t (rw (lt-ltb largest-text (length left) h)) e
 
   module _ (h : length left ≤ largest-text) where
-    pub right-too-long : (lm rm lh rh : List ℕ) (t : Two) → largest-text < length right
+    pub right-too-long : (lm rm lh rh : List ℕ) (t : TwoTexts) → largest-text < length right
         → t ≡ refused (in-file right-file text-too-long) → Loads left right lm rm lh rh t
-    unfolding two-judged too-long-in or-else
+    unfolding two-judged texts-judged channels-judged too-long-in or-else
     right-too-long lm rm lh rh t k e =
         loads-refused lm rm lh rh (in-file right-file text-too-long) t
         (rw (le-ltb largest-text (length left) h, lt-ltb largest-text (length right) k)) e
 
     module _ (k : length right ≤ largest-text) (lm lh : List ℕ) (l : Reading) (lm′ lh′ : List ℕ)
         (e : loading l lm′ lh′ ≡ load-outcome left lm lh) where
-      pub left-refused : (rm rh : List ℕ) (f g : Refusal) (t : Two) → l .answer ≡ read.Refused f
+      pub left-refused : (rm rh : List ℕ) (f g : Refusal) (t : TwoTexts) → l .answer ≡ Refused f
           → g ≡ in-file left-file f → t ≡ refused g
           → Loads left right lm′ rm lh′ rh t
-      unfolding two-judged too-long-in or-else
+      unfolding two-judged texts-judged channels-judged too-long-in or-else
       left-refused rm rh f g t a q z =
           loads-refused lm′ rm lh′ rh g t
           (rw (
@@ -277,10 +280,10 @@ module _ (left right : List ℕ) where
             q,
           )) z
 
-      pub both-read : (rm rh : List ℕ) (t : Two) → l .answer ≡ read.Accepted
+      pub both-read : (rm rh : List ℕ) (t : TwoTexts) → l .answer ≡ Accepted
           → (n : ℕ) → n ≡ state-count (text-of left) → Room n (length lm) (length lh)
           → Right-loaded left right rm rh t → Loads left right lm′ rm lh′ rh t
-      unfolding two-judged too-long-in or-else
+      unfolding two-judged texts-judged channels-judged too-long-in or-else
       both-read rm rh t a n q m R =
           let j : two-judged left right ≡ refusal-in (t .answer) =
           rw (

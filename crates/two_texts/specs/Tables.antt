@@ -11,22 +11,24 @@ use Rattle.systems.specs.Tests.{table}
 use Rattle.systems.specs.Renumbered.{renumbered}
 use Rattle.reader_record.specs.declared.Text.{Text}
 use Rattle.reader_formed.specs.Cases.{when-equal}
-use Rattle.clocks_bits.specs.Bits.{tab-from, tab-at, length-tab, written-at, written-length}
-use Rattle.clocks_bits.specs.Moves.{Bounded, Encodes}
+use Rattle.bitmaps.specs.Bits.{tab-from}
+use Rattle.bitmaps.specs.BitLaws.{tab-at, length-tab, written-at, written-length}
+use Rattle.systems.specs.Sieve.{length-table}
+use Rattle.move_tables.specs.Moves.{Bounded, Encodes}
 use Rattle.clocks.specs.States.{state-count, next, input, invariants}
 use Rattle.clocks.specs.Contract.{signature, system}
 use Rattle.clocks.specs.Encoded.{table-bounded, table-encoded, bits-bitmap, bits-start}
-use Rattle.clocks_safe.specs.Settle.{length-table}
-use Rattle.pairing.specs.Channels.{Channel, most-steps}
+use Rattle.pairing.specs.Channels.{Channel}
 use Rattle.pairing.specs.Table as by-map
 use Rattle.pairing.specs.Equal.{tick-stays, step-there}
 use Rattle.two_texts.specs.Two.{text-of, step-of, Compared, right-system}
 use Rattle.two_texts.specs.Laws.{Judged, named, channels-equal}
 use Rattle.two_texts.specs.Loaded.{Loaded}
-use Rattle.two_texts.specs.Answers.{accepted as accepted-two, size-by-left, by-left, Filled, Right-filled}
+use Rattle.two_texts.specs.Answers.{sides-of, accepted as accepted-two, size-by-left, by-left, Filled, Right-filled}
+use Rattle.limits.specs.Limits.{step-limit}
 
 -- a text's table fits wherever one with the most steps does
-pub table-fits : (t : Text) (steps room : ℕ) → steps ≤ most-steps → state-count t * most-steps ≤ room
+pub table-fits : (t : Text) (steps room : ℕ) → steps ≤ step-limit → state-count t * step-limit ≤ room
     → state-count t * steps ≤ room
 table-fits t steps room h l = omega (arith, mul-le-mul-left (state-count t) h)
 
@@ -51,8 +53,8 @@ module _ (left right : List ℕ) (j : Judged left right) where
       let k : Channel (text-of left) c = record { from-one = omega arith; declared = omega arith } in
       omega (arith, step-there left (text-of left) right (text-of right) wl wr e c k .declared))
 
-  pub map-at : (c : ℕ) → c < most-steps → getD (tab-from (step-of left right) 0 most-steps) c 0 ≡ step-of left right c
-  map-at c h = tab-at (step-of left right) 0 0 most-steps c h ∙ ap (step-of left right) (zero-add c)
+  pub map-at : (c : ℕ) → c < step-limit → getD (tab-from (step-of left right) 0 step-limit) c 0 ≡ step-of left right c
+  map-at c h = tab-at (step-of left right) 0 0 step-limit c h ∙ ap (step-of left right) (zero-add c)
 
 -- the right's slices
 module _ (left right moves holds : List ℕ) (j : Judged left right) (c : Compared left right)
@@ -69,7 +71,7 @@ module _ (left right moves holds : List ℕ) (j : Judged left right) (c : Compar
   unfolding by-left by-map.renumbered
   entry-by-left s d h k =
       let p = s * steps + d in
-      let f = by-map.renumbered (F .own) (tab-from (step-of left right) 0 most-steps) own-steps steps in
+      let f = by-map.renumbered (F .own) (tab-from (step-of left right) 0 step-limit) own-steps steps in
       let e : getD moves p 0 ≡ f p =
       ap (λ (l : List ℕ). getD l p 0) (F .moves-are)
       ∙ written-at f (size-by-left left right) (F .before) p (digits-lt h k) in
@@ -91,7 +93,7 @@ module _ (left right moves holds : List ℕ) (j : Judged left right) (c : Compar
       F .space,
       ap length (F .moves-are),
       written-length
-          (by-map.renumbered (F .own) (tab-from (step-of left right) 0 most-steps) own-steps steps)
+          (by-map.renumbered (F .own) (tab-from (step-of left right) 0 step-limit) own-steps steps)
           (size-by-left left right) (F .before) (F .space),
     );
     inside = λ s d h k. rw (entry-by-left s d h k)
@@ -103,7 +105,7 @@ module _ (left right moves holds : List ℕ) (j : Judged left right) (c : Compar
   right-encoded = record {
     move = λ s d h k.
         let E = table-encoded (text-of right) (c .right-text) (F .filled .over) (F .own) (F .filled .room)
-        (F .filled .moves-are) (tab-from (input (text-of right)) 0 most-steps) refl in
+        (F .filled .moves-are) (tab-from (input (text-of right)) 0 step-limit) refl in
         rw (le-leb d (text-of left .«channel_count») (omega arith), entry-by-left s d h k)
         (E .moves .move s (step-of left right d) h (step-below left right j d k));
   }
@@ -112,7 +114,7 @@ module _ (left right moves holds : List ℕ) (j : Judged left right) (c : Compar
 module _ (left right lm rm lh rh : List ℕ) (j : Judged left right) (c : Compared left right)
     (L : Filled (text-of left) lm lh) (R : Right-filled left right rm rh) where
   pub both-loaded : Loaded c lm rm lh rh (accepted-two (text-of left) (text-of right))
-  unfolding accepted-two renumbered system
+  unfolding accepted-two sides-of renumbered system
   both-loaded =
       let l = text-of left in
       let r = text-of right in
@@ -123,10 +125,10 @@ module _ (left right lm rm lh rh : List ℕ) (j : Judged left right) (c : Compar
         right-size = refl;
         left-start = refl;
         right-start = refl;
-        steps-told = length-tab (input l) 0 most-steps;
+        steps-told = length-tab (input l) 0 step-limit;
         left-bounded = table-bounded l a (L .over) lm (L .room) (L .moves-are);
         right-bounded = right-bounded left right rm rh j c R;
-        left-encoded = table-encoded l a (L .over) lm (L .room) (L .moves-are) (tab-from (input l) 0 most-steps) refl;
+        left-encoded = table-encoded l a (L .over) lm (L .room) (L .moves-are) (tab-from (input l) 0 step-limit) refl;
         right-encoded = right-encoded left right rm rh j c R;
         left-bits = bits-bitmap l a (L .under) lh (L .long) (L .holds-are) (length-invariants l);
         left-invariants = bits-start l a (L .under) lh (L .long) (L .holds-are) (length-invariants l);

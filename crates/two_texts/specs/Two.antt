@@ -8,20 +8,20 @@ use Prim.Native.Nat.{ℕ}
 use lib.Dec.{ltb}
 use lib.ListN.{length}
 use Rattle.refusals.specs.declared.Refusal.{Refusal}
-use Rattle.refusals.specs.Refusals.{in-file, text-too-long}
-use Rattle.reader_record.specs.Limits.{largest-text}
+use Rattle.refusals.specs.Refusals.{in-file, text-too-long, left-file, right-file}
 use Rattle.reader_record.specs.declared.Text.{Text}
 use Rattle.systems.specs.Definitions.{Input}
 use Rattle.systems.specs.Finite.{Finite-system}
 use Rattle.systems.specs.Renumbered.{renumbered}
 use Rattle.clocks.specs.Accepted.{Accepted}
 use Rattle.clocks.specs.Contract.{signature, system}
-use Rattle.clocks_read.specs.declared.ReadAnswer.{ReadAnswer}
-use Rattle.clocks_read.specs.declared.ReadAnswer.the-variants as read
+use Rattle.refusals.specs.declared.Verdict.{Verdict}
+use Rattle.refusals.specs.declared.Verdict.the-variants as verdict
 use Rattle.clocks_read.specs.Reading.{read-outcome}
 use Rattle.pairing.specs.declared.Matched.{Matched}
 use Rattle.pairing.specs.declared.Matched.the-variants.{Equal, Unmatched}
-use Rattle.pairing.specs.Channels.{left-file, right-file, unmatched, right-step}
+use Rattle.pairing.specs.Channels.{unmatched, right-step}
+use Rattle.limits.specs.Limits.{largest-text}
 
 -- the record of a text that is read
 abbrev pub text-of : List ℕ → Text
@@ -32,9 +32,9 @@ unfoldable pub too-long-in : ℕ → List ℕ → Option Refusal
 too-long-in file s = cond (ltb largest-text (length s)) (some (in-file file text-too-long)) none
 
 -- codes 1 to 11, with the mark of the file
-unfoldable pub refused-in : ℕ → ReadAnswer → Option Refusal
-refused-in file read.Accepted = none
-refused-in file (read.Refused r) = some (in-file file r)
+unfoldable pub refused-in : ℕ → Verdict → Option Refusal
+refused-in file verdict.Accepted = none
+refused-in file (verdict.Refused r) = some (in-file file r)
 
 -- code 12, which says itself which file it means
 unfoldable pub refused-pairing : Matched → Option Refusal
@@ -46,15 +46,21 @@ unfoldable pub or-else : Option Refusal → Option Refusal → Option Refusal
 or-else none later = later
 or-else (some r) later = some r
 
--- "Code 1 comes before all reading, the left's and then the right's"; "Left is read before right"; then 12.
--- None: both texts are accepted and have equal channels.
-unfoldable pub two-judged : List ℕ → List ℕ → Option Refusal
-two-judged left right =
+-- codes 1 to 11: "Code 1 comes before all reading, the left's and then the right's"; "Left is read before right"
+unfoldable pub texts-judged : List ℕ → List ℕ → Option Refusal
+texts-judged left right =
     or-else (too-long-in left-file left)
     (or-else (too-long-in right-file right)
     (or-else (refused-in left-file (read-outcome left .answer))
-    (or-else (refused-in right-file (read-outcome right .answer))
-    (refused-pairing (unmatched left (text-of left) right (text-of right))))))
+    (refused-in right-file (read-outcome right .answer))))
+
+-- code 12, of two accepted texts
+unfoldable pub channels-judged : List ℕ → List ℕ → Option Refusal
+channels-judged left right = refused-pairing (unmatched left (text-of left) right (text-of right))
+
+-- codes 1 to 12. None: both texts are accepted and have equal channels.
+unfoldable pub two-judged : List ℕ → List ℕ → Option Refusal
+two-judged left right = or-else (texts-judged left right) (channels-judged left right)
 
 -- the right's number of a step of the left: "Channels pair up by name"
 abbrev pub step-of : List ℕ → List ℕ → ℕ → ℕ

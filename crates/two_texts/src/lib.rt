@@ -1,85 +1,96 @@
 // Reads the two texts of an operation, pairs their channels by name and tabulates both: codes 1 to 12.
 use clocks_read::Measured;
-use clocks_read::ReadAnswer;
 use clocks_read::Reading;
+use limits::LARGEST_TEXT;
+use limits::STEP_LIMIT;
+use move_tables::Sides;
 use pairing::Matched;
 use reader_record::Text;
+use refusals::LEFT_FILE;
+use refusals::RIGHT_FILE;
 use refusals::Refusal;
+use refusals::Verdict;
 ghost use mathlib.Core.Path.{_≡_};
 ghost use Prim.Native.Nat.{_*_, _≤_};
 ghost use lib.ListN.{length};
-ghost use Rattle.clocks_table.specs.Judge.{Room};
+ghost use Rattle.clocks_table.specs.Room.{Room};
 ghost use Rattle.clocks_read.specs.Measured.{Measures};
-ghost use Rattle.pairing.specs.Channels.{most-steps};
+ghost use Rattle.refusals.specs.Refusals.{in-file, text-too-long};
 ghost use Rattle.two_texts.specs.Loaded.{Loads};
 ghost use Rattle.two_texts.specs.Measured.{Few, Measures-two, Rooms};
-ghost use Rattle.two_texts.specs.Answers.{refused, accepted, Sized, Accepted-reading, Paired, Right-loaded};
+ghost use Rattle.two_texts.specs.Answers.{refused, sides-of, accepted, Sized, Accepted-reading, Paired, Right-loaded};
+ghost use Rattle.limits.specs.Limits.{step-limit};
 
-pub enum TwoAnswer {
-    Accepted,
-    Refused(Refusal),
-}
-
-// What the operations need of two texts: how many states each has, how many steps there are (the tick and the
-// channels), the starts, and which steps are inputs. All 0 and false beside a refusal.
-pub struct Two {
-    pub answer: TwoAnswer,
-    pub left_states: usize,
-    pub right_states: usize,
-    pub steps: usize,
-    pub left_start: usize,
-    pub right_start: usize,
-    pub inputs: [bool; 17],
+// What reading two texts gives: whether both are accepted and their channels pair up; then their sizes and starts, and
+// which steps are inputs. Beside a refusal all is 0 and false.
+pub struct TwoTexts {
+    pub answer: Verdict,
+    pub sides: Sides,
+    pub inputs: [bool; STEP_LIMIT],
 }
 
 // Two texts, parsed and measured, and whether both have few states.
-pub struct Both {
+pub struct MeasuredTexts {
     pub left: Measured,
     pub right: Measured,
     pub few: bool,
 }
 
-fn refused(f: Refusal) -> Two
+fn refused(f: Refusal) -> TwoTexts
     ensures { λ t. ⌜ t ≡ refused f ⌝ }
 {
-    let answer = TwoAnswer::Refused(f);
-    let inputs = [false; 17];
-    Two {
-        answer,
+    let answer = Verdict::Refused(f);
+    let inputs = [false; STEP_LIMIT];
+    let sides = Sides {
         left_states: 0,
         right_states: 0,
         steps: 0,
         left_start: 0,
         right_start: 0,
+    };
+    TwoTexts {
+        answer,
+        sides,
         inputs,
     }
 }
 
-// The numbers of two accepted texts.
-fn accepted(l: Text, left_states: usize, r: Text, right_states: usize) -> Two
+// The sizes of two accepted texts.
+fn sides_of(l: Text, left_states: usize, r: Text, right_states: usize) -> Sides
     requires { ⌜ Sized l «left_states» × Sized r «right_states» ⌝ }
-    ensures { λ t. ⌜ t ≡ accepted l r ⌝ }
+    ensures { λ s. ⌜ s ≡ sides-of l r ⌝ }
 {
-    let answer = TwoAnswer::Accepted;
     let steps = l.channel_count + 1;
     let left_start = clocks_states::start_of(l.init, l.location_count, left_states);
     let right_start = clocks_states::start_of(r.init, r.location_count, right_states);
-    let channels = l.channels;
-    let inputs = clocks_states::inputs_of(channels, l.channel_count);
-    Two {
-        answer,
+    Sides {
         left_states,
         right_states,
         steps,
         left_start,
         right_start,
+    }
+}
+
+// The numbers of two accepted texts.
+fn accepted(l: Text, left_states: usize, r: Text, right_states: usize) -> TwoTexts
+    requires { ⌜ Sized l «left_states» × Sized r «right_states» ⌝ }
+    ensures { λ t. ⌜ t ≡ accepted l r ⌝ }
+{
+    let answer = Verdict::Accepted;
+    let sides = sides_of(l, left_states, r, right_states);
+    let channels = l.channels;
+    let inputs = clocks_states::inputs_of(channels, l.channel_count);
+    TwoTexts {
+        answer,
+        sides,
         inputs,
     }
 }
 
 // Code 12, else the right's table in `moves` is renumbered by the left's steps: there are equally many.
-fn paired(left: &[u8], l: Reading, right: &[u8], r: Reading, moves: &mut [u16]) -> Two
-    requires { ⌜ Accepted-reading (now left) l × Accepted-reading (now right) r × (r .states * most-steps ≤ length (now moves)) ⌝ }
+fn paired(left: &[u8], l: Reading, right: &[u8], r: Reading, moves: &mut [u16]) -> TwoTexts
+    requires { ⌜ Accepted-reading (now left) l × Accepted-reading (now right) r × (r .states * step-limit ≤ length (now moves)) ⌝ }
     ensures { λ t. ⌜ Paired (now (left .entry)) (now (right .entry)) (now (moves .entry)) (now (moves .entry))
         (now (moves .exit)) t ⌝ }
 {
@@ -107,7 +118,7 @@ fn load_right(
     m: Measured,
     moves: &mut [u16],
     holds: &mut [u8],
-) -> Two
+) -> TwoTexts
     requires { ⌜ Accepted-reading (now left) l × Measures (now right) m
         × Room (m .states) (length (now moves)) (length (now holds)) ⌝ }
     ensures { λ t. ⌜ Right-loaded (now (left .entry)) (now (right .entry)) (now (moves .exit)) (now (holds .exit)) t ⌝ }
@@ -115,11 +126,11 @@ fn load_right(
     let r = clocks_read::judge(m, moves, holds);
     let answer = r.answer;
     match answer {
-        ReadAnswer::Refused(f) => {
-            let g = f.in_file(2);
+        Verdict::Refused(f) => {
+            let g = f.in_file(RIGHT_FILE);
             refused(g)
         }
-        ReadAnswer::Accepted => paired(left, l, right, r, moves),
+        Verdict::Accepted => paired(left, l, right, r, moves),
     }
 }
 
@@ -127,24 +138,32 @@ fn load_right(
 fn are_few(n: usize, w: usize) -> bool
     ensures { λ r. ⌜ Few r n w ⌝ }
 {
-    if clocks_read::FEW_STATES < n {
+    if limits::FEW_STATES < n {
         return false;
     }
-    w <= clocks_read::FEW_STATES
+    w <= limits::FEW_STATES
 }
 
 // Parses both texts and counts their states. Slices for them are made after this, small ones where small ones do.
-pub fn measure_two(left: &[u8], right: &[u8]) -> Both
+pub fn measure_two(left: &[u8], right: &[u8]) -> MeasuredTexts
     ensures { λ b. ⌜ Measures-two (now (left .entry)) (now (right .entry)) b ⌝ }
 {
     let l = clocks_read::measure(left);
     let r = clocks_read::measure(right);
     let few = are_few(l.states, r.states);
-    Both {
+    MeasuredTexts {
         left: l,
         right: r,
         few: few,
     }
+}
+
+// Code 1 for one of the two texts.
+fn too_long(file: usize) -> Refusal
+    ensures { λ r. ⌜ r ≡ in-file file text-too-long ⌝ }
+{
+    let f = Refusal::text_too_long();
+    f.in_file(file)
 }
 
 // Codes 1 to 12, else the numbers of both texts, the move tables by the left's steps and the bits of the states whose
@@ -152,33 +171,23 @@ pub fn measure_two(left: &[u8], right: &[u8]) -> Both
 pub fn load_two(
     left: &[u8],
     right: &[u8],
-    both: Both,
+    both: MeasuredTexts,
     lm: &mut [u16],
     rm: &mut [u16],
     lh: &mut [u8],
     rh: &mut [u8],
-) -> Two
+) -> TwoTexts
     requires { ⌜ Measures-two (now left) (now right) both
         × Rooms both (length (now lm)) (length (now rm)) (length (now lh)) (length (now rh)) ⌝ }
     ensures { λ t. ⌜ Loads (now (left .entry)) (now (right .entry)) (now (lm .exit)) (now (rm .exit)) (now (lh .exit))
         (now (rh .exit)) t ⌝ }
 {
-    if 32768 < left.len() {
-        let f = Refusal {
-            code: 1,
-            file: 1,
-            p: 0,
-            q: 0,
-        };
+    if LARGEST_TEXT < left.len() {
+        let f = too_long(LEFT_FILE);
         return refused(f);
     }
-    if 32768 < right.len() {
-        let f = Refusal {
-            code: 1,
-            file: 2,
-            p: 0,
-            q: 0,
-        };
+    if LARGEST_TEXT < right.len() {
+        let f = too_long(RIGHT_FILE);
         return refused(f);
     }
     let ours = both.left;
@@ -186,10 +195,10 @@ pub fn load_two(
     let l = clocks_read::judge(ours, lm, lh);
     let answer = l.answer;
     match answer {
-        ReadAnswer::Refused(f) => {
-            let g = f.in_file(1);
+        Verdict::Refused(f) => {
+            let g = f.in_file(LEFT_FILE);
             refused(g)
         }
-        ReadAnswer::Accepted => load_right(left, l, right, theirs, rm, rh),
+        Verdict::Accepted => load_right(left, l, right, theirs, rm, rh),
     }
 }

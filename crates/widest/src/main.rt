@@ -1,27 +1,30 @@
 // Writes the widest table of left.xta against right.xta to standard output as a PBM file, or prints the refusal.
+use limits::KEEP_LIMIT;
+use limits::STATE_LIMIT;
 use tables::WidestAnswer;
+use tables_header::TABLE_LIMIT;
 ghost use mathlib.Core.Path.{_≡_};
 ghost use lib.ListN.{length};
+ghost use Rattle.tables_header.specs.Header.{table-limit};
 
-// The largest table that this program makes, in bytes.
-const ROOM: usize = 262144;
-
-fn room() -> [u8; ROOM]
-    ensures { λ r. ⌜ length r ≡ 262144 ⌝ }
+// Room for every table that two texts can have. It stands behind a function because antt must not unfold an array of
+// this length.
+fn room() -> [u8; TABLE_LIMIT]
+    ensures { λ r. ⌜ length r ≡ table-limit ⌝ }
 {
-    [0u8; ROOM]
+    [0u8; TABLE_LIMIT]
 }
 
 // The table at the front of the buffer, as long as the two texts' state counts say.
 fn put_table(left: &[u8], right: &[u8], table: &[u8]) {
-    let l = clocks_read::read(left);
-    let r = clocks_read::read(right);
+    let l = operations::read(left);
+    let r = operations::read(right);
     let n = l.states;
     let w = r.states;
-    if 4096 < n {
+    if STATE_LIMIT < n {
         return;
     }
-    if 4096 < w {
+    if STATE_LIMIT < w {
         return;
     }
     let start: usize = 0;
@@ -32,9 +35,9 @@ fn put_table(left: &[u8], right: &[u8], table: &[u8]) {
 }
 
 fn make(left: &[u8], right: &[u8]) {
-    let mut keep = [0u8; 512];
+    let mut keep = [0u8; KEEP_LIMIT];
     let mut table = room();
-    let answer = tables::widest(left, right, &mut keep, &mut table);
+    let answer = operations::widest(left, right, &mut keep, &mut table);
     match answer {
         WidestAnswer::Refused(f) => programs::put_refusal(f),
         WidestAnswer::Made(_, _) => put_table(left, right, &table),

@@ -1,20 +1,8 @@
 use borrow.Author.Needs.{needs}
-use Rattle.clocks_states.specs.Parts.{counted, count-is}
-use Rattle.clocks_read.specs.Paths.{load-formed, measured-refused, measured-accepted}
+use Rattle.clocks_states.specs.Laws.{counted, count-is}
+use Rattle.clocks_read.proofs.Paths.{load-formed, measured-refused, measured-accepted}
 use Rattle.clocks_read.proofs.measure.Statement.{statement}
 use Rattle.clocks_read.proofs.measure.Tie as tie
-
-parse-requires : tie.Need-parse-requires
-parse-requires c κs = search needs
-
-enum-told : tie.Need-enum-told
-enum-told c = search needs
-
-no-ranges-requires : tie.Need-no-ranges-requires
-no-ranges-requires c κs = search needs
-
-enum-told-2 : tie.Need-enum-told-2
-enum-told-2 c = search needs
 
 ranges-of-requires : tie.Need-ranges-of-requires
 ranges-of-requires c κs =
@@ -52,10 +40,10 @@ pub measure-spec : {M : Type 1} → statement M
 measure-spec =
     tie.close
     (tie.spec
-    parse-requires
-    enum-told
-    no-ranges-requires
-    enum-told-2
+    (λ c κs. search needs)
+    (λ c. search needs)
+    (λ c κs. search needs)
+    (λ c. search needs)
     ranges-of-requires
     state-count-of-requires
     returns

@@ -1,25 +1,10 @@
 use borrow.Author.Needs.{needs}
 use native.Mathlib.Omega.{arith}
 use Rattle.clocks_table.specs.Judge.{room-within, room-always}
-use Rattle.clocks_read.specs.Measured.{few-states}
-use Rattle.clocks_read.specs.Paths.{measured-reading}
+use Rattle.clocks_read.proofs.Paths.{measured-reading}
 use Rattle.clocks_read.proofs.read.Statement.{statement}
 use Rattle.clocks_read.proofs.read.Tie as tie
-
-measure-requires : tie.Need-measure-requires
-measure-requires c κs = search needs
-
-few-moves-requires : tie.Need-few-moves-requires
-few-moves-requires c κs = search needs
-
-few-states-requires : tie.Need-few-states-requires
-few-states-requires c κs = search needs
-
-slice-aggregate-judge : tie.Need-slice-aggregate-judge
-slice-aggregate-judge c = search needs
-
-slice-aggregate-judge-2 : tie.Need-slice-aggregate-judge-2
-slice-aggregate-judge-2 c = search needs
+use Rattle.limits.specs.Limits.{few-states}
 
 judge-requires : tie.Need-judge-requires
 judge-requires c κs =
@@ -33,18 +18,6 @@ returns : tie.Need-returns
 returns c =
     let measures = c .before .before .before .before .before .before .before .before .before .measure .ensures in
     measured-reading _ _ measures _ _ _ (c .before .before .judge .ensures)
-
-no-moves-requires : tie.Need-no-moves-requires
-no-moves-requires c κs = search needs
-
-no-states-requires : tie.Need-no-states-requires
-no-states-requires c κs = search needs
-
-slice-aggregate-judge-3 : tie.Need-slice-aggregate-judge-3
-slice-aggregate-judge-3 c = search needs
-
-slice-aggregate-judge-4 : tie.Need-slice-aggregate-judge-4
-slice-aggregate-judge-4 c = search needs
 
 judge-requires-2 : tie.Need-judge-requires-2
 judge-requires-2 c κs =
@@ -60,16 +33,16 @@ pub read-spec : {M : Type 1} → statement M
 read-spec =
     tie.close
     (tie.spec
-    measure-requires
-    few-moves-requires
-    few-states-requires
-    slice-aggregate-judge
-    slice-aggregate-judge-2
+    (λ c κs. search needs)
+    (λ c κs. search needs)
+    (λ c κs. search needs)
+    (λ c. search needs)
+    (λ c. search needs)
     judge-requires
     returns
-    no-moves-requires
-    no-states-requires
-    slice-aggregate-judge-3
-    slice-aggregate-judge-4
+    (λ c κs. search needs)
+    (λ c κs. search needs)
+    (λ c. search needs)
+    (λ c. search needs)
     judge-requires-2
     returns-2)

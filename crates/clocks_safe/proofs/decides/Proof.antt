@@ -5,15 +5,9 @@ use Rattle.clocks_safe.specs.Test.{decides}
 use Rattle.clocks_safe.proofs.decides.Statement.{statement}
 use Rattle.clocks_safe.proofs.decides.Tie as tie
 
-own-passes-requires : tie.Need-own-passes-requires
-own-passes-requires c κs = search needs
-
 returns : tie.Need-returns
 unfolding decides
 returns c = rw (c .before .if1 .taken) (c .own-passes .ensures)
-
-input-passes-requires : tie.Need-input-passes-requires
-input-passes-requires c κs = search needs
 
 returns-2 : tie.Need-returns-2
 unfolding decides
@@ -24,4 +18,4 @@ unfolding decides
 returns-3 c = rw (c .before .before .if1 .left, sym (c .before .input-passes .ensures), c .if2 .left)
 
 pub decides-spec : {M : Type 1} → statement M
-decides-spec = tie.close (tie.spec own-passes-requires returns input-passes-requires returns-2 returns-3)
+decides-spec = tie.close (tie.spec (λ c κs. search needs) returns (λ c κs. search needs) returns-2 returns-3)

@@ -1,6 +1,6 @@
 use borrow.Author.Tests.{not-true, not-false}
 use Rattle.systems.specs.Tests.{_⇒_, stays}
-use Rattle.clocks_bits.specs.Moves.{decode-none, decode-some}
+use Rattle.move_tables.specs.MoveLaws.{decode-none, decode-some}
 use Rattle.clocks_safe.specs.Test.{input-passes}
 use Rattle.clocks_safe.proofs.input_passes.Statement.{statement}
 use Rattle.clocks_safe.proofs.input_passes.Tie as tie

@@ -1,5 +1,5 @@
 use Rattle.systems.specs.Tests.{lands}
-use Rattle.clocks_bits.specs.Moves.{decode-none, decode-some}
+use Rattle.move_tables.specs.MoveLaws.{decode-none, decode-some}
 use Rattle.clocks_safe.specs.Test.{own-passes}
 use Rattle.clocks_safe.proofs.own_passes.Statement.{statement}
 use Rattle.clocks_safe.proofs.own_passes.Tie as tie

@@ -1,18 +1,12 @@
 -- An input that decides takes the state out; without one, a step of the system's own has to decide.
 use borrow.Author.Needs.{needs}
 use mathlib.Core.Path.{sym, _∙_}
-use Rattle.clocks_safe.specs.Test.{input-decides, own-decides}
+use Rattle.clocks_safe.proofs.TestLaws.{input-decides, own-decides}
 use Rattle.clocks_safe.proofs.passes.Statement.{statement}
 use Rattle.clocks_safe.proofs.passes.Tie as tie
 
-some-decides-requires : tie.Need-some-decides-requires
-some-decides-requires c κs = search needs
-
 returns : tie.Need-returns
 returns c = sym (input-decides _ _ _ _ _ (sym (c .before .some-decides .ensures) ∙ c .if1 .taken))
-
-some-decides-requires-2 : tie.Need-some-decides-requires-2
-some-decides-requires-2 c κs = search needs
 
 returns-2 : tie.Need-returns-2
 returns-2 c =
@@ -20,4 +14,4 @@ returns-2 c =
     c .some-decides2 .ensures ∙ sym (own-decides _ _ _ _ _ none)
 
 pub passes-spec : {M : Type 1} → statement M
-passes-spec = tie.close (tie.spec some-decides-requires returns some-decides-requires-2 returns-2)
+passes-spec = tie.close (tie.spec (λ c κs. search needs) returns (λ c κs. search needs) returns-2)

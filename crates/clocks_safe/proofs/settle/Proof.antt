@@ -3,8 +3,9 @@ use native.Mathlib.Omega.{arith}
 use mathlib.Core.Path.{_≡_, refl}
 use mathlib.Core.List.{List}
 use Prim.Native.Nat.{ℕ, _-_, _≤_, _<_}
-use Rattle.clocks_bits.specs.Packed.{packed-length}
-use Rattle.clocks_safe.specs.Settle.{Held, Swept, held-start, visit-count, visit-held, visit-swept, held-done}
+use Rattle.bitmaps.specs.PackedLaws.{packed-length}
+use Rattle.clocks_safe.specs.Settle.{Held, Swept}
+use Rattle.clocks_safe.proofs.SettleLaws.{held-start, visit-count, visit-held, visit-swept, held-done}
 use Rattle.clocks_safe.proofs.settle.Statement.{statement}
 use Rattle.clocks_safe.proofs.settle.Tie as tie
 
@@ -27,9 +28,6 @@ loop-holds c = held-start (c .before .before .before .pre .0) (c .before .before
 
 loop2-holds : tie.Need-loop2-holds Inv-loop2 μ-loop2 Inv-loop μ-loop
 loop2-holds c = (omega arith, (refl, (omega arith, (λ k₀ H. H, λ e i l q. absurd (omega arith)))))
-
-sub-s : tie.Need-sub-s Inv-loop2 μ-loop2 Inv-loop μ-loop
-sub-s c = search needs
 
 visit-requires : tie.Need-visit-requires Inv-loop2 μ-loop2 Inv-loop μ-loop
 visit-requires c κs =
@@ -60,9 +58,6 @@ sub-left c =
     visit-count (pre .0) (loop2-call .inv .1 .1 .1 .0 (args .keep .now) (loop .inv)) (loop2-call .s - 1)
     (let q : (loop2-call .s - 1) < args .n = omega arith in q) (c .before .before .visit .ensures) .0
 
-loop2-less : tie.Need-loop2-less Inv-loop2 μ-loop2 Inv-loop μ-loop
-loop2-less c = search needs
-
 loop2-again : tie.Need-loop2-again Inv-loop2 μ-loop2 Inv-loop μ-loop
 loop2-again c =
     let args = c .before .before .before .before .before .before .before .before .before .before .args in
@@ -90,9 +85,6 @@ loop2-again c =
         ),
       ),
     )
-
-loop-less : tie.Need-loop-less Inv-loop2 μ-loop2 Inv-loop μ-loop
-loop-less c = search needs
 
 loop-again : tie.Need-loop-again Inv-loop2 μ-loop2 Inv-loop μ-loop
 loop-again c =
@@ -125,12 +117,12 @@ settle-spec =
     μ-loop
     loop-holds
     loop2-holds
-    sub-s
+    (λ c. search needs)
     visit-requires
     sub-left
-    loop2-less
+    (λ c. search needs)
     loop2-again
-    loop-less
+    (λ c. search needs)
     loop-again
     same-length
     returns)

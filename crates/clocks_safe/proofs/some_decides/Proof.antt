@@ -5,9 +5,10 @@ use mathlib.Core.Path.{_≡_, sym, _∙_, ap, refl}
 use mathlib.Core.Bool.{false}
 use Prim.Native.Nat.{ℕ, _+_, _-_, _*_, _≤_}
 use Rattle.systems.specs.Tests.{any}
-use Rattle.clocks_bits.specs.Bits.{bit-at}
-use Rattle.clocks_bits.specs.Moves.{target, reach, base-few}
-use Rattle.clocks_safe.specs.Test.{some-decides, decides-at, decides, any-none, any-more, any-hits}
+use Rattle.bitmaps.specs.Bits.{bit-at}
+use Rattle.move_tables.specs.MoveLaws.{target, reach, base-few}
+use Rattle.clocks_safe.specs.Test.{some-decides, decides-at, decides}
+use Rattle.clocks_safe.proofs.TestLaws.{any-none, any-more, any-hits}
 use Rattle.clocks_safe.proofs.some_decides.Statement.{statement}
 use Rattle.clocks_safe.proofs.some_decides.Tie as tie
 
@@ -50,9 +51,6 @@ cast-t c =
     let args = c .before .before .before .before .before .before .args in
     omega (arith, c .shared-slice-known4 .given (args .s * args .steps + c .before .before .loop .c))
 
-shared-slice-read-decides : tie.Need-shared-slice-read-decides Inv-loop μ-loop
-shared-slice-read-decides c = search needs
-
 decides-requires : tie.Need-decides-requires Inv-loop μ-loop
 decides-requires c κs =
     let args = c .before .before .before .before .before .before .before .args in
@@ -72,12 +70,6 @@ returns c =
     let step = loop .c in
     let hit = sym (c .before .decides .ensures) ∙ c .if1 .taken in
     sym (any-hits (decided (args .own)) step _ (loop-test .taken) hit)
-
-add-c : tie.Need-add-c Inv-loop μ-loop
-add-c c = search needs
-
-loop-less : tie.Need-loop-less Inv-loop μ-loop
-loop-less c = search needs
 
 loop-again : tie.Need-loop-again Inv-loop μ-loop
 unfolding decides-at
@@ -111,10 +103,10 @@ some-decides-spec =
     mul-t
     shared-slice-read-t
     cast-t
-    shared-slice-read-decides
+    (λ c. search needs)
     decides-requires
     returns
-    add-c
-    loop-less
+    (λ c. search needs)
+    (λ c. search needs)
     loop-again
     returns-2)

@@ -7,12 +7,6 @@ use borrow.Author.Needs.{needs}
 use Rattle.clocks_safe.proofs.visit.Statement.{statement}
 use Rattle.clocks_safe.proofs.visit.Tie as tie
 
-get-requires : tie.Need-get-requires
-get-requires c κs = search needs
-
-same-length : tie.Need-same-length
-same-length c = search needs
-
 returns : tie.Need-returns
 returns c =
     let get-call = c .before .get in
@@ -23,12 +17,6 @@ returns c =
           cc (e, get-call .ensures, not-true (get-call .result) (c .if1 .taken)) in absurd (omega arith),
     )
 
-passes-requires : tie.Need-passes-requires
-passes-requires c κs = search needs
-
-same-length-2 : tie.Need-same-length-2
-same-length-2 c = search needs
-
 returns-2 : tie.Need-returns-2
 returns-2 c = inl (refl, refl, λ e. sym (c .before .passes .ensures) ∙ c .if2 .taken)
 
@@ -37,9 +25,6 @@ clear-requires c κs =
     let get-call = c .before .before .before .before .before .get in
     let if1 = c .before .before .before .before .if1 in
     (search needs, sym (get-call .ensures) ∙ not-false (get-call .result) (if1 .left))
-
-same-length-3 : tie.Need-same-length-3
-same-length-3 c = search needs
 
 returns-3 : tie.Need-returns-3
 returns-3 c =
@@ -59,12 +44,12 @@ pub visit-spec : {M : Type 1} → statement M
 visit-spec =
     tie.close
     (tie.spec
-    get-requires
-    same-length
+    (λ c κs. search needs)
+    (λ c. search needs)
     returns
-    passes-requires
-    same-length-2
+    (λ c κs. search needs)
+    (λ c. search needs)
     returns-2
     clear-requires
-    same-length-3
+    (λ c. search needs)
     returns-3)

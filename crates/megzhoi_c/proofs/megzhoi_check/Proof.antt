@@ -7,18 +7,6 @@ use borrow.Author.Needs.{needs}
 use Rattle.megzhoi_c.proofs.megzhoi_check.Statement.{statement}
 use Rattle.megzhoi_c.proofs.megzhoi_check.Tie as tie
 
-check-requires : tie.Need-check-requires
-check-requires c κs = search needs
-
-check-returned-requires : tie.Need-check-returned-requires
-check-returned-requires c κs = search needs
-
-hand-out-requires : tie.Need-hand-out-requires
-hand-out-requires c κs = search needs
-
-same-length : tie.Need-same-length
-same-length c = search needs
-
 returns : tie.Need-returns
 returns c =
     let done = c .before .before .before .before .before .before .before .check .ensures in (
@@ -30,4 +18,4 @@ returns c =
 pub megzhoi-check-spec : {M : Type 1} → statement M
 megzhoi-check-spec =
     tie.close
-    (tie.spec check-requires check-returned-requires hand-out-requires same-length returns)
+    (tie.spec (λ c κs. search needs) (λ c κs. search needs) (λ c κs. search needs) (λ c. search needs) returns)

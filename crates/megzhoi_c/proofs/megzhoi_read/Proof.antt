@@ -7,21 +7,6 @@ use borrow.Author.Needs.{needs}
 use Rattle.megzhoi_c.proofs.megzhoi_read.Statement.{statement}
 use Rattle.megzhoi_c.proofs.megzhoi_read.Tie as tie
 
-read-requires : tie.Need-read-requires
-read-requires c κs = search needs
-
-write-record-requires : tie.Need-write-record-requires
-write-record-requires c κs = search needs
-
-read-returned-requires : tie.Need-read-returned-requires
-read-returned-requires c κs = search needs
-
-hand-out-requires : tie.Need-hand-out-requires
-hand-out-requires c κs = search needs
-
-same-length : tie.Need-same-length
-same-length c = search needs
-
 returns : tie.Need-returns
 returns c =
     let done = c .before .before .before .before .before .before .before .before .before .before .read .ensures in
@@ -37,9 +22,9 @@ pub megzhoi-read-spec : {M : Type 1} → statement M
 megzhoi-read-spec =
     tie.close
     (tie.spec
-    read-requires
-    write-record-requires
-    read-returned-requires
-    hand-out-requires
-    same-length
+    (λ c κs. search needs)
+    (λ c κs. search needs)
+    (λ c κs. search needs)
+    (λ c κs. search needs)
+    (λ c. search needs)
     returns)

@@ -7,18 +7,6 @@ use borrow.Author.Needs.{needs}
 use Rattle.megzhoi_c.proofs.megzhoi_safe_states.Statement.{statement}
 use Rattle.megzhoi_c.proofs.megzhoi_safe_states.Tie as tie
 
-safe-states-requires : tie.Need-safe-states-requires
-safe-states-requires c κs = search needs
-
-safe-returned-requires : tie.Need-safe-returned-requires
-safe-returned-requires c κs = search needs
-
-hand-out-requires : tie.Need-hand-out-requires
-hand-out-requires c κs = search needs
-
-same-length : tie.Need-same-length
-same-length c = search needs
-
 returns : tie.Need-returns
 returns c =
     let done = c .before .before .before .before .before .before .before .safe-states .ensures in (
@@ -30,4 +18,4 @@ returns c =
 pub megzhoi-safe-states-spec : {M : Type 1} → statement M
 megzhoi-safe-states-spec =
     tie.close
-    (tie.spec safe-states-requires safe-returned-requires hand-out-requires same-length returns)
+    (tie.spec (λ c κs. search needs) (λ c κs. search needs) (λ c κs. search needs) (λ c. search needs) returns)

@@ -7,21 +7,6 @@ use borrow.Author.Needs.{needs}
 use Rattle.megzhoi_c.proofs.megzhoi_widest.Statement.{statement}
 use Rattle.megzhoi_c.proofs.megzhoi_widest.Tie as tie
 
-widest-requires : tie.Need-widest-requires
-widest-requires c κs = search needs
-
-widest-returned-requires : tie.Need-widest-returned-requires
-widest-returned-requires c κs = search needs
-
-hand-out-requires : tie.Need-hand-out-requires
-hand-out-requires c κs = search needs
-
-same-length : tie.Need-same-length
-same-length c = search needs
-
-same-length-2 : tie.Need-same-length-2
-same-length-2 c = search needs
-
 returns : tie.Need-returns
 returns c =
     let done = c .before .before .before .before .before .before .before .before .before .widest .ensures in (
@@ -34,9 +19,9 @@ pub megzhoi-widest-spec : {M : Type 1} → statement M
 megzhoi-widest-spec =
     tie.close
     (tie.spec
-    widest-requires
-    widest-returned-requires
-    hand-out-requires
-    same-length
-    same-length-2
+    (λ c κs. search needs)
+    (λ c κs. search needs)
+    (λ c κs. search needs)
+    (λ c. search needs)
+    (λ c. search needs)
     returns)

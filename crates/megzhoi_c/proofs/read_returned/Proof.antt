@@ -4,23 +4,14 @@ use borrow.Author.Needs.{needs}
 use Rattle.megzhoi_c.proofs.read_returned.Statement.{statement}
 use Rattle.megzhoi_c.proofs.read_returned.Tie as tie
 
-enum-told : tie.Need-enum-told
-enum-told c = search needs
-
-succeeded-requires : tie.Need-succeeded-requires
-succeeded-requires c κs = search needs
-
-enum-known-a : tie.Need-enum-known-a
-enum-known-a c = search needs
-
 returns : tie.Need-returns
 unfolding of-read
 returns c = rw (c .before .enum-told .given .1) (c .succeeded .ensures)
 
 returns-2 : tie.Need-returns-2
 unfolding of-read
-returns-2 c = rw (c .before .a .given .1)
+returns-2 c = rw (c .before .before .a .given .1) (c .refused .ensures)
 
 pub read-returned-spec : {M : Type 1} → statement M
 read-returned-spec =
-    tie.close (tie.spec enum-told succeeded-requires enum-known-a returns returns-2)
+    tie.close (tie.spec (λ c. search needs) (λ c κs. search needs) (λ c. search needs) (λ c κs. search needs) returns returns-2)

@@ -5,18 +5,6 @@ use borrow.Author.Needs.{needs}
 use Rattle.megzhoi_c.proofs.safe_returned.Statement.{statement}
 use Rattle.megzhoi_c.proofs.safe_returned.Tie as tie
 
-enum-known-a : tie.Need-enum-known-a
-enum-known-a c = search needs
-
-number-of-bool-requires : tie.Need-number-of-bool-requires
-number-of-bool-requires c κs = search needs
-
-succeeded-requires : tie.Need-succeeded-requires
-succeeded-requires c κs = search needs
-
-enum-known-a-2 : tie.Need-enum-known-a-2
-enum-known-a-2 c = search needs
-
 returns : tie.Need-returns
 unfolding of-safe
 returns c = rw (c .before .before .before .a .given .1, sym (c .before .number-of-bool .ensures)) (c .succeeded
@@ -24,15 +12,16 @@ returns c = rw (c .before .before .before .a .given .1, sym (c .before .number-o
 
 returns-2 : tie.Need-returns-2
 unfolding of-safe
-returns-2 c = rw (c .before .a2 .given .1)
+returns-2 c = rw (c .before .before .a2 .given .1) (c .refused .ensures)
 
 pub safe-returned-spec : {M : Type 1} → statement M
 safe-returned-spec =
     tie.close
     (tie.spec
-    enum-known-a
-    number-of-bool-requires
-    succeeded-requires
-    enum-known-a-2
+    (λ c. search needs)
+    (λ c κs. search needs)
+    (λ c κs. search needs)
+    (λ c. search needs)
+    (λ c κs. search needs)
     returns
     returns-2)

@@ -4,18 +4,6 @@ use borrow.Author.Needs.{needs}
 use Rattle.megzhoi_c.proofs.write_record.Statement.{statement}
 use Rattle.megzhoi_c.proofs.write_record.Tie as tie
 
-enum-told : tie.Need-enum-told
-enum-told c = search needs
-
-write-requires : tie.Need-write-requires
-write-requires c κs = search needs
-
-enum-told-2 : tie.Need-enum-told-2
-enum-told-2 c = search needs
-
-same-length : tie.Need-same-length
-same-length c = search needs
-
 returns : tie.Need-returns
 unfolding recorded
 returns c = rw (c .before .before .before .before .enum-told .given .1) (c .before .before .write .ensures)
@@ -26,4 +14,4 @@ returns-2 c = rw (c .enum-told2 .given .1)
 
 pub write-record-spec : {M : Type 1} → statement M
 write-record-spec =
-    tie.close (tie.spec enum-told write-requires enum-told-2 same-length returns returns-2)
+    tie.close (tie.spec (λ c. search needs) (λ c κs. search needs) (λ c. search needs) (λ c. search needs) returns returns-2)

@@ -8,31 +8,10 @@ use Rattle.pairing.specs.Laws.{matched-none, matched-some}
 use Rattle.pairing.proofs.is_matched.Statement.{statement}
 use Rattle.pairing.proofs.is_matched.Tie as tie
 
-sub-k : tie.Need-sub-k
-sub-k c = search needs
-
-mul-k : tie.Need-mul-k
-mul-k c = search needs
-
-element-copy-out-k : tie.Need-element-copy-out-k
-element-copy-out-k c = search needs
-
-partner-of-requires : tie.Need-partner-of-requires
-partner-of-requires c κs = search needs
-
 returns : tie.Need-returns
 returns c =
     let a = c .before .before .before .before .before .before .args in
     sym (matched-none (a .s .now) (only (a .t2)) (a .u .now) (only (a .r)) (a .c) _ (c .before .partner-of .ensures) (c .if1 .taken))
-
-is-input-step-requires : tie.Need-is-input-step-requires
-is-input-step-requires c κs = search needs
-
-is-input-step-requires-2 : tie.Need-is-input-step-requires-2
-is-input-step-requires-2 c κs = search needs
-
-do-agree-requires : tie.Need-do-agree-requires
-do-agree-requires c κs = search needs
 
 returns-2 : tie.Need-returns-2
 unfolding input channel-input
@@ -48,12 +27,12 @@ pub is-matched-spec : {M : Type 1} → statement M
 is-matched-spec =
     tie.close
     (tie.spec
-    sub-k
-    mul-k
-    element-copy-out-k
-    partner-of-requires
+    (λ c. search needs)
+    (λ c. search needs)
+    (λ c. search needs)
+    (λ c κs. search needs)
     returns
-    is-input-step-requires
-    is-input-step-requires-2
-    do-agree-requires
+    (λ c κs. search needs)
+    (λ c κs. search needs)
+    (λ c κs. search needs)
     returns-2)

@@ -1,16 +1,10 @@
 -- `pair_channels` is `pairing`, by what its parts ensure.
 use borrow.Author.Needs.{needs}
 use Prim.Native.Nat.{_≤_}
-use Rattle.reader_record.specs.Limits.{channel-limit}
-use Rattle.pairing.specs.Only.{pairing-done}
+use Rattle.pairing.proofs.Turns.{pairing-done}
 use Rattle.pairing.proofs.pair_channels.Statement.{statement}
 use Rattle.pairing.proofs.pair_channels.Tie as tie
-
-channels-of-requires : tie.Need-channels-of-requires
-channels-of-requires c κs = search needs
-
-channels-of-requires-2 : tie.Need-channels-of-requires-2
-channels-of-requires-2 c κs = search needs
+use Rattle.limits.specs.Limits.{channel-limit}
 
 -- no more channels than a text has
 few : (c : tie.After-channels-of2) → (c .before .channels-of .result .count ≤ channel-limit)
@@ -24,9 +18,6 @@ unmatched-of-requires c κs = few c
 
 unmatched-of-requires-2 : tie.Need-unmatched-of-requires-2
 unmatched-of-requires-2 c κs = (few (c .before) .1, few (c .before) .0)
-
-verdict-of-requires : tie.Need-verdict-of-requires
-verdict-of-requires c κs = search needs
 
 steps-of-requires : tie.Need-steps-of-requires
 steps-of-requires c κs = few (c .before .before .before)
@@ -43,10 +34,10 @@ pub pair-channels-spec : {M : Type 1} → statement M
 pair-channels-spec =
     tie.close
     (tie.spec
-    channels-of-requires
-    channels-of-requires-2
+    (λ c κs. search needs)
+    (λ c κs. search needs)
     unmatched-of-requires
     unmatched-of-requires-2
-    verdict-of-requires
+    (λ c κs. search needs)
     steps-of-requires
     returns)

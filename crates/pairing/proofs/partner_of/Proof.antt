@@ -6,7 +6,7 @@ use mathlib.Core.Path.{_≡_, sym, _∙_}
 use Rattle.reader_record.specs.declared.Name.{Name}
 use Rattle.pairing.specs.Only.{only}
 use Rattle.pairing.specs.Channels.{partner}
-use Rattle.pairing.specs.Laws.{seek, seek-begins, seek-finds, seek-goes, seek-ends}
+use Rattle.pairing.proofs.Turns.{seek, seek-begins, seek-finds, seek-goes, seek-ends}
 use Rattle.pairing.proofs.partner_of.Statement.{statement}
 use Rattle.pairing.proofs.partner_of.Tie as tie
 
@@ -18,34 +18,13 @@ Inv-loop s u r place len d₀ d =
 abbrev μ-loop : tie.MeasureT-loop
 μ-loop s u r place len d₀ d = r .count + 1 - d
 
-cast-place : tie.Need-cast-place Inv-loop μ-loop
-cast-place c = search needs
-
-cast-len : tie.Need-cast-len Inv-loop μ-loop
-cast-len c = search needs
-
 loop-holds : tie.Need-loop-holds Inv-loop μ-loop
 loop-holds c =
     let a = c .before .before .before .before .args in
     (omega arith, omega arith, seek-begins (a .s .now) (a .name) (a .u .now) (only (a .t4)))
 
-sub-k : tie.Need-sub-k Inv-loop μ-loop
-sub-k c = search needs
-
-mul-k : tie.Need-mul-k Inv-loop μ-loop
-mul-k c = search needs
-
 element-copy-out-k : tie.Need-element-copy-out-k Inv-loop μ-loop
 element-copy-out-k c = omega (arith, c .before .before .before .before .before .before .pre)
-
-cast-at : tie.Need-cast-at Inv-loop μ-loop
-cast-at c = search needs
-
-cast-is-same : tie.Need-cast-is-same Inv-loop μ-loop
-cast-is-same c = search needs
-
-is-same-requires : tie.Need-is-same-requires Inv-loop μ-loop
-is-same-requires c κs = search needs
 
 returns : tie.Need-returns Inv-loop μ-loop
 returns c =
@@ -59,9 +38,6 @@ add-d : tie.Need-add-d Inv-loop μ-loop
 add-d c =
     let pre = c .before .before .before .before .before .before .before .before .before .before .before .before .pre in
     omega (arith, pre)
-
-loop-less : tie.Need-loop-less Inv-loop μ-loop
-loop-less c = search needs
 
 loop-again : tie.Need-loop-again Inv-loop μ-loop
 loop-again c =
@@ -85,17 +61,17 @@ partner-of-spec =
     (tie.spec
     Inv-loop
     μ-loop
-    cast-place
-    cast-len
+    (λ c. search needs)
+    (λ c. search needs)
     loop-holds
-    sub-k
-    mul-k
+    (λ c. search needs)
+    (λ c. search needs)
     element-copy-out-k
-    cast-at
-    cast-is-same
-    is-same-requires
+    (λ c. search needs)
+    (λ c. search needs)
+    (λ c κs. search needs)
     returns
     add-d
-    loop-less
+    (λ c. search needs)
     loop-again
     returns-2)

@@ -4,8 +4,9 @@ use native.Mathlib.Omega.{arith}
 use Prim.Native.Nat.{ℕ, _-_, _*_, _≤_}
 use mathlib.Core.Path.{_≡_, refl, sym, _∙_, ap}
 use lib.ListN.{length}
-use Rattle.clocks_bits.specs.Bits.{written, written-none}
-use Rattle.pairing.specs.Laws.{row-there, rows-more}
+use Rattle.bitmaps.specs.Bits.{written}
+use Rattle.bitmaps.specs.BitLaws.{written-none}
+use Rattle.pairing.proofs.Turns.{row-there, rows-more}
 use Rattle.pairing.specs.Table.{renumbered, Row-there}
 use Rattle.pairing.proofs.renumber.Statement.{statement}
 use Rattle.pairing.proofs.renumber.Tie as tie
@@ -39,12 +40,6 @@ renumber-row-requires c κs =
     let pre = c .before .before .before .before .pre in
     (rw (c .before .before .loop .inv .1) (here c), pre .steps)
 
-add-row : tie.Need-add-row Inv-loop μ-loop
-add-row c = search needs
-
-loop-less : tie.Need-loop-less Inv-loop μ-loop
-loop-less c = search needs
-
 loop-again : tie.Need-loop-again Inv-loop μ-loop
 loop-again c =
     let call = c .before .before in
@@ -54,9 +49,6 @@ loop-again c =
     let done = rows-more (start .pre) (loop .row) (test .loop-test .taken) _ _ _ refl (loop .inv .2)
     (call .renumber-row .ensures) in
     (omega arith, search needs, done)
-
-same-length : tie.Need-same-length Inv-loop μ-loop
-same-length c = search needs
 
 returns : tie.Need-returns Inv-loop μ-loop
 returns c =
@@ -74,8 +66,8 @@ renumber-spec =
     loop-holds
     mul-renumber-row
     renumber-row-requires
-    add-row
-    loop-less
+    (λ c. search needs)
+    (λ c. search needs)
     loop-again
-    same-length
+    (λ c. search needs)
     returns)

@@ -4,7 +4,7 @@ use native.Mathlib.Omega.{arith}
 use Prim.Native.Nat.{_-_, _≤_}
 use mathlib.Core.Path.{_≡_, refl}
 use lib.ListN.{length, length-set}
-use Rattle.pairing.specs.Laws.{row-none, row-more, row-done}
+use Rattle.pairing.proofs.Turns.{row-none, row-more, row-done}
 use Rattle.pairing.specs.Table.{Row-written}
 use Rattle.pairing.proofs.renumber_row.Statement.{statement}
 use Rattle.pairing.proofs.renumber_row.Tie as tie
@@ -24,12 +24,6 @@ loop-holds c =
     let a = c .before .before .before .args in
     (omega arith, refl, row-none (a .moves .now) (a .t2) (a .from) _)
 
-mul-d : tie.Need-mul-d Inv-loop μ-loop
-mul-d c = search needs
-
-array-read-d : tie.Need-array-read-d Inv-loop μ-loop
-array-read-d c = search needs
-
 mul-moves : tie.Need-mul-moves Inv-loop μ-loop
 mul-moves c =
     let pre = c .before .before .before .before .before .pre in
@@ -39,21 +33,6 @@ array-read-moves : tie.Need-array-read-moves Inv-loop μ-loop
 array-read-moves c =
     let pre = c .before .before .before .before .before .pre in
     omega (arith, pre .0 .few, pre .1 (c .before .loop .c) (c .loop-test .taken))
-
-add-moves : tie.Need-add-moves Inv-loop μ-loop
-add-moves c = search needs
-
-mul-moves-2 : tie.Need-mul-moves-2 Inv-loop μ-loop
-mul-moves-2 c = search needs
-
-slice-write-moves : tie.Need-slice-write-moves Inv-loop μ-loop
-slice-write-moves c = search needs
-
-add-c : tie.Need-add-c Inv-loop μ-loop
-add-c c = search needs
-
-loop-less : tie.Need-loop-less Inv-loop μ-loop
-loop-less c = search needs
 
 loop-again : tie.Need-loop-again Inv-loop μ-loop
 loop-again c =
@@ -66,9 +45,6 @@ loop-again c =
       row-more (a .moves .now) (a .t2) (a .from) (loop .c) (a .width) _ _ (copy .result) (c .loop-test .taken)
           (start .pre .1) (copy .ensures) (loop .inv .2),
     )
-
-same-length : tie.Need-same-length Inv-loop μ-loop
-same-length c = search needs
 
 returns : tie.Need-returns Inv-loop μ-loop
 returns c =
@@ -84,15 +60,15 @@ renumber-row-spec =
     μ-loop
     row-at-requires
     loop-holds
-    mul-d
-    array-read-d
+    (λ c. search needs)
+    (λ c. search needs)
     mul-moves
     array-read-moves
-    add-moves
-    mul-moves-2
-    slice-write-moves
-    add-c
-    loop-less
+    (λ c. search needs)
+    (λ c. search needs)
+    (λ c. search needs)
+    (λ c. search needs)
+    (λ c. search needs)
     loop-again
-    same-length
+    (λ c. search needs)
     returns)

@@ -9,29 +9,20 @@ use Rattle.pairing.proofs.step_of.Tie as tie
 
 returns : tie.Need-returns
 returns c =
-    let a = c .before .before .before .args in
+    let a = c .before .before .before .before .args in
     sym (step-none (a .s .now) (only (a .t2)) (a .u .now) (only (a .r)) (a .c) (c .if1 .taken))
 
 returns-2 : tie.Need-returns-2
 returns-2 c =
-    let a = c .before .before .before .before .args in
+    let a = c .before .before .before .before .before .args in
     sym (step-over (a .s .now) (only (a .t2)) (a .u .now) (only (a .r)) (a .c) (c .before .if1 .left) (c .if2 .taken))
 
-sub-channel : tie.Need-sub-channel
-sub-channel c = search needs
-
-mul-channel : tie.Need-mul-channel
-mul-channel c = search needs
-
 element-copy-out-channel : tie.Need-element-copy-out-channel
-element-copy-out-channel c = omega (arith, c .before .before .before .before .pre .0)
-
-partner-of-requires : tie.Need-partner-of-requires
-partner-of-requires c κs = search needs
+element-copy-out-channel c = omega (arith, c .before .before .before .before .before .pre .0)
 
 returns-3 : tie.Need-returns-3
 returns-3 c =
-    let a = c .before .before .before .before .before .before .before .args in
+    let a = c .before .before .before .before .before .before .before .before .args in
     let if1 = c .before .before .before .before .if1 in
     c .partner-of .ensures ∙ sym (step-in (a .s .now) (only (a .t2)) (a .u .now) (only (a .r)) (a .c) (if1 .left) (omega arith))
 
@@ -41,8 +32,8 @@ step-of-spec =
     (tie.spec
     returns
     returns-2
-    sub-channel
-    mul-channel
+    (λ c. search needs)
+    (λ c. search needs)
     element-copy-out-channel
-    partner-of-requires
+    (λ c κs. search needs)
     returns-3)

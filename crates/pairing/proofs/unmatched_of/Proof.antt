@@ -7,7 +7,7 @@ use Prim.Native.Nat.{_+_, _-_, _≤_}
 use mathlib.Core.Path.{_≡_, sym, _∙_}
 use Rattle.pairing.specs.Only.{only}
 use Rattle.pairing.specs.Channels.{first-unmatched}
-use Rattle.pairing.specs.Laws.{judge, judge-begins, judge-finds, judge-goes, judge-ends}
+use Rattle.pairing.proofs.Turns.{judge, judge-begins, judge-finds, judge-goes, judge-ends}
 use Rattle.pairing.proofs.unmatched_of.Statement.{statement}
 use Rattle.pairing.proofs.unmatched_of.Tie as tie
 
@@ -38,9 +38,6 @@ returns c =
 add-c : tie.Need-add-c Inv-loop μ-loop
 add-c c = omega (arith, c .before .before .before .before .before .before .before .pre .0)
 
-loop-less : tie.Need-loop-less Inv-loop μ-loop
-loop-less c = search needs
-
 loop-again : tie.Need-loop-again Inv-loop μ-loop
 loop-again c =
     let a = c .before .before .before .before .before .before .before .args in
@@ -68,6 +65,6 @@ unmatched-of-spec =
     is-matched-requires
     returns
     add-c
-    loop-less
+    (λ c. search needs)
     loop-again
     returns-2)

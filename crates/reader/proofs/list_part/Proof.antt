@@ -3,12 +3,6 @@ use borrow.Author.Needs.{needs}
 use Rattle.reader.proofs.list_part.Statement.{statement}
 use Rattle.reader.proofs.list_part.Tie as tie
 
-ahead-requires : tie.Need-ahead-requires
-ahead-requires c κs = search needs
-
-named-items-requires : tie.Need-named-items-requires
-named-items-requires c κs = search needs
-
 returns : tie.Need-returns
 returns c init edges count =
     rw (← c .before .before .ahead .ensures, c .before .if1 .taken)
@@ -18,4 +12,4 @@ returns-2 : tie.Need-returns-2
 returns-2 c init edges count = rw (← c .before .ahead .ensures, c .if1 .left)
 
 pub list-part-spec : {M : Type 1} → statement M
-list-part-spec = tie.close (tie.spec ahead-requires named-items-requires returns returns-2)
+list-part-spec = tie.close (tie.spec (λ c κs. search needs) (λ c κs. search needs) returns returns-2)

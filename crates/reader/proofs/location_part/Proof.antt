@@ -1,19 +1,13 @@
 -- `location_part` is `location-part`, by the contracts of its parts.
 use borrow.Author.Needs.{needs}
-use Rattle.reader_lists.specs.State.{next}
+use Rattle.reader_lists.specs.State.{next-token}
 use Rattle.reader.specs.Reading.{location-part}
 use Rattle.reader.proofs.location_part.Statement.{statement}
 use Rattle.reader.proofs.location_part.Tie as tie
 
-take-requires : tie.Need-take-requires
-take-requires c κs = search needs
-
-named-items-requires : tie.Need-named-items-requires
-named-items-requires c κs = search needs
-
 returns : tie.Need-returns
-unfolding location-part next
+unfolding location-part next-token
 returns c init edges count = rw (← c .before .take .ensures) (c .named-items .ensures init edges count)
 
 pub location-part-spec : {M : Type 1} → statement M
-location-part-spec = tie.close (tie.spec take-requires named-items-requires returns)
+location-part-spec = tie.close (tie.spec (λ c κs. search needs) (λ c κs. search needs) returns)

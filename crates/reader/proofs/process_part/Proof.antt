@@ -1,27 +1,12 @@
 -- `process_part` is `process-part`, by the contracts of its parts.
 use borrow.Author.Needs.{needs}
-use Rattle.reader_lists.specs.State.{next}
+use Rattle.reader_lists.specs.State.{next-token}
 use Rattle.reader.specs.Reading.{process-part}
 use Rattle.reader.proofs.process_part.Statement.{statement}
 use Rattle.reader.proofs.process_part.Tie as tie
 
-take-requires : tie.Need-take-requires
-take-requires c κs = search needs
-
-declare-requires : tie.Need-declare-requires
-declare-requires c κs = search needs
-
-take-requires-2 : tie.Need-take-requires-2
-take-requires-2 c κs = search needs
-
-take-requires-3 : tie.Need-take-requires-3
-take-requires-3 c κs = search needs
-
-take-requires-4 : tie.Need-take-requires-4
-take-requires-4 c κs = search needs
-
 returns : tie.Need-returns
-unfolding process-part next
+unfolding process-part next-token
 returns c t =
     let named = c .before .before .before .before .before in
     rw (
@@ -36,9 +21,9 @@ pub process-part-spec : {M : Type 1} → statement M
 process-part-spec =
     tie.close
     (tie.spec
-    take-requires
-    declare-requires
-    take-requires-2
-    take-requires-3
-    take-requires-4
+    (λ c κs. search needs)
+    (λ c κs. search needs)
+    (λ c κs. search needs)
+    (λ c κs. search needs)
+    (λ c κs. search needs)
     returns)

@@ -8,27 +8,6 @@ use Rattle.reader.specs.Reading.{read-whole, answer}
 use Rattle.reader.proofs.read_whole.Statement.{statement}
 use Rattle.reader.proofs.read_whole.Tie as tie
 
-read-head-requires : tie.Need-read-head-requires
-read-head-requires c κs = search needs
-
-init-part-requires : tie.Need-init-part-requires
-init-part-requires c κs = search needs
-
-edge-part-requires : tie.Need-edge-part-requires
-edge-part-requires c κs = search needs
-
-end-part-requires : tie.Need-end-part-requires
-end-part-requires c κs = search needs
-
-enum-known-end : tie.Need-enum-known-end
-enum-known-end c = search needs
-
-refused-requires : tie.Need-refused-requires
-refused-requires c κs = search needs
-
-enum-told : tie.Need-enum-told
-enum-told c = search needs
-
 -- the parts in their order, put together
 all-parts :
     (c : tie.After-end-part) →
@@ -71,12 +50,12 @@ pub read-whole-spec : {M : Type 1} → statement M
 read-whole-spec =
     tie.close
     (tie.spec
-    read-head-requires
-    init-part-requires
-    edge-part-requires
-    end-part-requires
-    enum-known-end
-    refused-requires
-    enum-told
+    (λ c κs. search needs)
+    (λ c κs. search needs)
+    (λ c κs. search needs)
+    (λ c κs. search needs)
+    (λ c. search needs)
+    (λ c κs. search needs)
+    (λ c. search needs)
     returns
     returns-2)

@@ -5,15 +5,9 @@ use Rattle.reader.specs.Faults.{refusal-of}
 use Rattle.reader.proofs.refused.Statement.{statement}
 use Rattle.reader.proofs.refused.Tie as tie
 
-refusal-of-requires : tie.Need-refusal-of-requires
-refusal-of-requires c κs = search needs
-
-no-text-requires : tie.Need-no-text-requires
-no-text-requires c κs = search needs
-
 returns : tie.Need-returns
 unfolding refused
 returns c = rw (c .before .refusal-of .ensures, c .no-text .ensures)
 
 pub refused-spec : {M : Type 1} → statement M
-refused-spec = tie.close (tie.spec refusal-of-requires no-text-requires returns)
+refused-spec = tie.close (tie.spec (λ c κs. search needs) (λ c κs. search needs) returns)

@@ -4,12 +4,9 @@ use Rattle.reader.specs.Reading.{start}
 use Rattle.reader.proofs.start.Statement.{statement}
 use Rattle.reader.proofs.start.Tie as tie
 
-no-head-requires : tie.Need-no-head-requires
-no-head-requires c κs = search needs
-
 returns : tie.Need-returns
 unfolding start
 returns c = rw (c .no-head .ensures)
 
 pub start-spec : {M : Type 1} → statement M
-start-spec = tie.close (tie.spec no-head-requires returns)
+start-spec = tie.close (tie.spec (λ c κs. search needs) returns)

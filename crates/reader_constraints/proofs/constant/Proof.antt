@@ -1,27 +1,12 @@
--- `constant` is `constant`: a capped number above the largest constant is a number above it.
+-- `constant` is `constant`: a clamped number above the largest constant is a number above it.
 use borrow.Author.Needs.{needs}
 use borrow.Author.Tests.{eq-eqb, ne-eqb, lt-ltb, le-ltb}
 use mathlib.Core.Path.{sym, _∙_}
-use Rattle.reader_record.specs.Limits.{largest-constant}
 use Rattle.reader_constraints.specs.Constraints.{constant-of, constant}
-use Rattle.reader_constraints.proofs.Laws.{uncapped, above}
+use Rattle.reader_tokens.specs.Clamped.{unclamped, above}
 use Rattle.reader_constraints.proofs.constant.Statement.{statement}
 use Rattle.reader_constraints.proofs.constant.Tie as tie
-
-enum-known-st : tie.Need-enum-known-st
-enum-known-st c = search needs
-
-no-amount-requires : tie.Need-no-amount-requires
-no-amount-requires c κs = search needs
-
-enum-known-st-2 : tie.Need-enum-known-st-2
-enum-known-st-2 c = search needs
-
-scan-requires : tie.Need-scan-requires
-scan-requires c κs = search needs
-
-no-amount-requires-2 : tie.Need-no-amount-requires-2
-no-amount-requires-2 c κs = search needs
+use Rattle.limits.specs.Limits.{largest-constant}
 
 returns : tie.Need-returns
 unfolding constant constant-of
@@ -32,12 +17,6 @@ returns c = rw (
   ne-eqb _ _ (c .before .if1 .taken),
   c .no-amount2 .ensures,
 )
-
-number-at-requires : tie.Need-number-at-requires
-number-at-requires c κs = search needs
-
-no-amount-requires-3 : tie.Need-no-amount-requires-3
-no-amount-requires-3 c κs = search needs
 
 returns-2 : tie.Need-returns-2
 unfolding constant constant-of
@@ -63,7 +42,7 @@ returns-4 c =
     let st2-call = c .before .before .before .before .before .before .st2 in
     let scan-call = c .before .before .before .before .scan in
     let number-at-call = c .before .number-at in
-    let v = number-at-call .ensures ∙ uncapped _ (rw (number-at-call .ensures) at (c .if2 .left)) in
+    let v = number-at-call .ensures ∙ unclamped _ (rw (number-at-call .ensures) at (c .if2 .left)) in
     rw (
       st2-call .given .1,
       sym
@@ -77,14 +56,14 @@ pub constant-spec : {M : Type 1} → statement M
 constant-spec =
     tie.close
     (tie.spec
-    enum-known-st
-    no-amount-requires
-    enum-known-st-2
-    scan-requires
-    no-amount-requires-2
+    (λ c. search needs)
+    (λ c κs. search needs)
+    (λ c. search needs)
+    (λ c κs. search needs)
+    (λ c κs. search needs)
     returns
-    number-at-requires
-    no-amount-requires-3
+    (λ c κs. search needs)
+    (λ c κs. search needs)
     returns-2
     returns-3
     returns-4)

@@ -2,21 +2,10 @@
 use borrow.Author.Needs.{needs}
 use borrow.Author.Tests.{eq-eqb, ne-eqb}
 use mathlib.Core.Path.{sym}
+use Rattle.reader_tokens.specs.Kinds as kinds
 use Rattle.reader_constraints.specs.Constraints.{sign-of, sign-next}
 use Rattle.reader_constraints.proofs.sign_next.Statement.{statement}
 use Rattle.reader_constraints.proofs.sign_next.Tie as tie
-
-enum-known-st : tie.Need-enum-known-st
-enum-known-st c = search needs
-
-no-sign-requires : tie.Need-no-sign-requires
-no-sign-requires c κs = search needs
-
-enum-known-st-2 : tie.Need-enum-known-st-2
-enum-known-st-2 c = search needs
-
-scan-requires : tie.Need-scan-requires
-scan-requires c κs = search needs
 
 returns : tie.Need-returns
 unfolding sign-next sign-of
@@ -27,16 +16,13 @@ returns c = rw (
       (c .if1 .taken),
 )
 
-no-sign-requires-2 : tie.Need-no-sign-requires-2
-no-sign-requires-2 c κs = search needs
-
 returns-2 : tie.Need-returns-2
 unfolding sign-next sign-of
 returns-2 c = rw (
   c .before .before .before .before .before .st2 .given .1,
   sym
       (c .before .before .before .scan .ensures),
-  ne-eqb _ 15421 (c .before .before .if1 .left),
+  ne-eqb _ kinds.at-most (c .before .before .if1 .left),
   c .before .if2 .taken,
   c .no-sign2 .ensures,
 )
@@ -61,9 +47,6 @@ returns-4 c = rw (
   c .before .before .if2 .left,
 )
 
-no-sign-requires-3 : tie.Need-no-sign-requires-3
-no-sign-requires-3 c κs = search needs
-
 returns-5 : tie.Need-returns-5
 unfolding sign-next sign-of
 returns-5 c = rw (c .before .before .st .given .1, c .no-sign .ensures)
@@ -74,12 +57,12 @@ returns-6 c = rw (
   c .before .before .before .before .before .before .before .st2 .given .1,
   sym
       (c .before .before .before .before .before .scan .ensures),
-  ne-eqb _ 15421
+  ne-eqb _ kinds.at-most
       (c .before .before .before .before .if1 .left),
   c .before .before .before .if2 .left,
-  ne-eqb _ 15933
+  ne-eqb _ kinds.at-least
       (c .before .before .if3 .left),
-  ne-eqb _ 15677 (c .before .if4 .left),
+  ne-eqb _ kinds.equal (c .before .if4 .left),
   c .no-sign3 .ensures,
 )
 
@@ -87,15 +70,15 @@ pub sign-next-spec : {M : Type 1} → statement M
 sign-next-spec =
     tie.close
     (tie.spec
-    enum-known-st
-    no-sign-requires
-    enum-known-st-2
-    scan-requires
+    (λ c. search needs)
+    (λ c κs. search needs)
+    (λ c. search needs)
+    (λ c κs. search needs)
     returns
-    no-sign-requires-2
+    (λ c κs. search needs)
     returns-2
     returns-3
     returns-4
-    no-sign-requires-3
+    (λ c κs. search needs)
     returns-5
     returns-6)

@@ -4,17 +4,17 @@ use borrow.Author.Tests.{not-true, not-false}
 use native.Mathlib.Omega.{arith}
 use mathlib.Core.Path.{_≡_, refl, sym, _∙_}
 use mathlib.Core.Bool.{false}
-use Rattle.reader_record.specs.Limits.{clock-limit}
 use Rattle.reader_parts.specs.Slots.{first-clock}
 use Rattle.reader_parts.specs.Facts.{use-small}
 use Rattle.reader_parts.specs.Progress.{left}
-use Rattle.reader_edges.specs.Assigns.{assign-next, no-resets, items}
+use Rattle.reader_edges.specs.Assigns.{assign-next, no-resets, assign-items}
 use Rattle.reader_edges.specs.Progress.{comma-less, items-more, items-last}
 use Rattle.reader_edges.proofs.assign_items.Statement.{statement}
 use Rattle.reader_edges.proofs.assign_items.Tie as tie
+use Rattle.limits.specs.Limits.{clock-limit}
 
 abbrev Inv-loop : tie.InvT-loop
-Inv-loop s names resets₀ q₀ resets q = items s names q resets ≡ items s names q₀ no-resets
+Inv-loop s names resets₀ q₀ resets q = assign-items s names q resets ≡ assign-items s names q₀ no-resets
 
 abbrev μ-loop : tie.MeasureT-loop
 μ-loop s names resets₀ q₀ resets q = left s q
@@ -23,18 +23,9 @@ loop-holds : tie.Need-loop-holds Inv-loop μ-loop
 unfolding no-resets
 loop-holds c = refl
 
-assign-next-requires : tie.Need-assign-next-requires Inv-loop μ-loop
-assign-next-requires c κs = search needs
-
 array-write-resets : tie.Need-array-write-resets Inv-loop μ-loop
 unfolding assign-next
 array-write-resets c = rw (c .assign-next .ensures) (use-small _ _ first-clock clock-limit false (omega arith) _)
-
-ahead-requires : tie.Need-ahead-requires Inv-loop μ-loop
-ahead-requires c κs = search needs
-
-take-requires : tie.Need-take-requires Inv-loop μ-loop
-take-requires c κs = search needs
 
 returns : tie.Need-returns Inv-loop μ-loop
 returns c =
@@ -43,9 +34,6 @@ returns c =
     (items-last _ _ _ _ (c .before .before .before .assign-next .ensures)
     (sym (c .before .before .ahead .ensures) ∙ not-true _ (c .before .if1 .taken)))
     ∙ c .before .before .before .before .loop .inv)
-
-take-requires-2 : tie.Need-take-requires-2 Inv-loop μ-loop
-take-requires-2 c κs = search needs
 
 loop-less : tie.Need-loop-less Inv-loop μ-loop
 loop-less c =
@@ -68,11 +56,11 @@ assign-items-spec =
     Inv-loop
     μ-loop
     loop-holds
-    assign-next-requires
+    (λ c κs. search needs)
     array-write-resets
-    ahead-requires
-    take-requires
+    (λ c κs. search needs)
+    (λ c κs. search needs)
     returns
-    take-requires-2
+    (λ c κs. search needs)
     loop-less
     loop-again)

@@ -6,15 +6,6 @@ use Rattle.reader_edges.specs.Assigns.{assign-next}
 use Rattle.reader_edges.proofs.assign_next.Statement.{statement}
 use Rattle.reader_edges.proofs.assign_next.Tie as tie
 
-use-name-requires : tie.Need-use-name-requires
-use-name-requires c κs = search needs
-
-take-requires : tie.Need-take-requires
-take-requires c κs = search needs
-
-zero-next-requires : tie.Need-zero-next-requires
-zero-next-requires c κs = search needs
-
 returns : tie.Need-returns
 unfolding assign-next
 returns c = rw (
@@ -25,4 +16,4 @@ returns c = rw (
 )
 
 pub assign-next-spec : {M : Type 1} → statement M
-assign-next-spec = tie.close (tie.spec use-name-requires take-requires zero-next-requires returns)
+assign-next-spec = tie.close (tie.spec (λ c κs. search needs) (λ c κs. search needs) (λ c κs. search needs) returns)

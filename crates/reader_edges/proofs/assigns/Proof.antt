@@ -6,15 +6,6 @@ use Rattle.reader_edges.specs.Assigns.{assigns}
 use Rattle.reader_edges.proofs.assigns.Statement.{statement}
 use Rattle.reader_edges.proofs.assigns.Tie as tie
 
-ahead-requires : tie.Need-ahead-requires
-ahead-requires c κs = search needs
-
-take-requires : tie.Need-take-requires
-take-requires c κs = search needs
-
-assign-items-requires : tie.Need-assign-items-requires
-assign-items-requires c κs = search needs
-
 returns : tie.Need-returns
 unfolding assigns
 returns c = rw (
@@ -25,9 +16,6 @@ returns c = rw (
   c .assign-items .ensures,
 )
 
-no-resets-requires : tie.Need-no-resets-requires
-no-resets-requires c κs = search needs
-
 returns-2 : tie.Need-returns-2
 unfolding assigns
 returns-2 c = rw (sym (c .before .before .ahead .ensures), c .before .if1 .left, c .no-resets .ensures)
@@ -36,9 +24,9 @@ pub assigns-spec : {M : Type 1} → statement M
 assigns-spec =
     tie.close
     (tie.spec
-    ahead-requires
-    take-requires
-    assign-items-requires
+    (λ c κs. search needs)
+    (λ c κs. search needs)
+    (λ c κs. search needs)
     returns
-    no-resets-requires
+    (λ c κs. search needs)
     returns-2)

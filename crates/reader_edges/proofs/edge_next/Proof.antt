@@ -2,7 +2,6 @@
 use borrow.Author.Needs.{needs}
 use native.Mathlib.Omega.{arith}
 use mathlib.Core.Path.{sym}
-use Rattle.reader_record.specs.Limits.{location-limit}
 use Rattle.reader_parts.specs.Facts.{used-small}
 use Rattle.reader_parts.specs.Slots.{first-location}
 use Rattle.reader_parts.specs.Status.{take}
@@ -11,30 +10,7 @@ use Rattle.reader_edges.specs.Assigns.{assigns}
 use Rattle.reader_edges.specs.Edges.{edge-next}
 use Rattle.reader_edges.proofs.edge_next.Statement.{statement}
 use Rattle.reader_edges.proofs.edge_next.Tie as tie
-
-use-name-requires : tie.Need-use-name-requires
-use-name-requires c κs = search needs
-
-take-requires : tie.Need-take-requires
-take-requires c κs = search needs
-
-use-name-requires-2 : tie.Need-use-name-requires-2
-use-name-requires-2 c κs = search needs
-
-take-requires-2 : tie.Need-take-requires-2
-take-requires-2 c κs = search needs
-
-guard-requires : tie.Need-guard-requires
-guard-requires c κs = search needs
-
-label-next-requires : tie.Need-label-next-requires
-label-next-requires c κs = search needs
-
-assigns-requires : tie.Need-assigns-requires
-assigns-requires c κs = search needs
-
-take-requires-3 : tie.Need-take-requires-3
-take-requires-3 c κs = search needs
+use Rattle.limits.specs.Limits.{location-limit}
 
 cast-t23 : tie.Need-cast-t23
 cast-t23 c =
@@ -77,14 +53,14 @@ pub edge-next-spec : {M : Type 1} → statement M
 edge-next-spec =
     tie.close
     (tie.spec
-    use-name-requires
-    take-requires
-    use-name-requires-2
-    take-requires-2
-    guard-requires
-    label-next-requires
-    assigns-requires
-    take-requires-3
+    (λ c κs. search needs)
+    (λ c κs. search needs)
+    (λ c κs. search needs)
+    (λ c κs. search needs)
+    (λ c κs. search needs)
+    (λ c κs. search needs)
+    (λ c κs. search needs)
+    (λ c κs. search needs)
     cast-t23
     cast-t24
     returns)

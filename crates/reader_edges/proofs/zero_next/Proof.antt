@@ -3,18 +3,9 @@ use borrow.Author.Needs.{needs}
 use borrow.Author.Tests.{eq-eqb, ne-eqb}
 use mathlib.Core.Path.{sym, _∙_}
 use Rattle.reader_edges.specs.Assigns.{zero-of, zero-next}
-use Rattle.reader_edges.proofs.Laws.{capped-zero, zero-capped}
+use Rattle.reader_tokens.specs.Clamped.{clamped-zero, zero-clamped}
 use Rattle.reader_edges.proofs.zero_next.Statement.{statement}
 use Rattle.reader_edges.proofs.zero_next.Tie as tie
-
-enum-known-st : tie.Need-enum-known-st
-enum-known-st c = search needs
-
-enum-known-st-2 : tie.Need-enum-known-st-2
-enum-known-st-2 c = search needs
-
-scan-requires : tie.Need-scan-requires
-scan-requires c κs = search needs
 
 returns : tie.Need-returns
 unfolding zero-next zero-of
@@ -24,9 +15,6 @@ returns c = rw (
   ne-eqb _ _ (c .if1 .taken),
 )
 
-number-at-requires : tie.Need-number-at-requires
-number-at-requires c κs = search needs
-
 returns-2 : tie.Need-returns-2
 unfolding zero-next zero-of
 returns-2 c = rw (
@@ -35,7 +23,7 @@ returns-2 c = rw (
       (c .before .before .before .before .scan .ensures),
   eq-eqb _ _ (c .before .before .if1 .left),
   ne-eqb _ 0
-      (λ z. c .if2 .taken (c .before .number-at .ensures ∙ zero-capped _ z)),
+      (λ z. c .if2 .taken (c .before .number-at .ensures ∙ zero-clamped _ z)),
 )
 
 returns-3 : tie.Need-returns-3
@@ -50,18 +38,18 @@ returns-4 c = rw (
       (c .before .before .before .before .scan .ensures),
   eq-eqb _ _ (c .before .before .if1 .left),
   eq-eqb _ 0
-      (capped-zero _ (sym (c .before .number-at .ensures) ∙ c .if2 .left)),
+      (clamped-zero _ (sym (c .before .number-at .ensures) ∙ c .if2 .left)),
 )
 
 pub zero-next-spec : {M : Type 1} → statement M
 zero-next-spec =
     tie.close
     (tie.spec
-    enum-known-st
-    enum-known-st-2
-    scan-requires
+    (λ c. search needs)
+    (λ c. search needs)
+    (λ c κs. search needs)
     returns
-    number-at-requires
+    (λ c κs. search needs)
     returns-2
     returns-3
     returns-4)

@@ -10,12 +10,6 @@ returns : tie.Need-returns
 unfolding after-item
 returns c = rw (eq-eqb _ _ (c .if1 .taken))
 
-ahead-requires : tie.Need-ahead-requires
-ahead-requires c κs = search needs
-
-take-requires : tie.Need-take-requires
-take-requires c κs = search needs
-
 returns-2 : tie.Need-returns-2
 unfolding after-item
 returns-2 c = rw (
@@ -23,9 +17,6 @@ returns-2 c = rw (
   sym (c .before .before .ahead .ensures) ∙ c .before .if2 .taken,
   sym (c .take .ensures),
 )
-
-take-requires-2 : tie.Need-take-requires-2
-take-requires-2 c κs = search needs
 
 returns-3 : tie.Need-returns-3
 unfolding after-item
@@ -38,4 +29,4 @@ returns-3 c = rw (
 pub after-item-spec : {M : Type 1} → statement M
 after-item-spec =
     tie.close
-    (tie.spec returns ahead-requires take-requires returns-2 take-requires-2 returns-3)
+    (tie.spec returns (λ c κs. search needs) (λ c κs. search needs) returns-2 (λ c κs. search needs) returns-3)

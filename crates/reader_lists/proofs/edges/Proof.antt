@@ -6,17 +6,17 @@ use mathlib.Core.Path.{_≡_, sym, _∙_}
 use mathlib.Core.Logic.{⊎-elim}
 use Prim.Native.Nat.{ℕ, _<_}
 use lib.Dec.{leb}
-use Rattle.reader_record.specs.Limits.{edge-limit}
 use Rattle.reader_edges.specs.Facts.{channel-small}
-use Rattle.reader_lists.specs.declared.Item.the-variants.{Edge}
+use Rattle.reader_lists.specs.Lists.Item.{Edge}
 use Rattle.reader_lists.specs.declared.Head.{Head}
 use Rattle.reader_lists.specs.State.{with-edge}
-use Rattle.reader_lists.specs.Lists.{edge, items-from, items}
+use Rattle.reader_lists.specs.Lists.{edge-item, items-from, items}
 use Rattle.reader_lists.specs.Turns.{state-of}
 use Rattle.reader_lists.specs.Heads.{whole, with-channels, no-edges, with-head, before-edges}
 use Rattle.reader_lists.proofs.Laws.{items-last, items-more, more-room}
 use Rattle.reader_lists.proofs.edges.Statement.{statement}
 use Rattle.reader_lists.proofs.edges.Tie as tie
+use Rattle.limits.specs.Limits.{edge-limit}
 
 abbrev Inv-loop : tie.InvT-loop
 Inv-loop s names st₀ channels₀ edges₀ n₀ room₀ st channels edges n room =
@@ -27,15 +27,9 @@ Inv-loop s names st₀ channels₀ edges₀ n₀ room₀ st channels edges n roo
 abbrev μ-loop : tie.MeasureT-loop
 μ-loop s names st₀ channels₀ edges₀ n₀ room₀ st channels edges n room = room
 
-no-edge-requires : tie.Need-no-edge-requires Inv-loop μ-loop
-no-edge-requires c κs = search needs
-
 loop-holds : tie.Need-loop-holds Inv-loop μ-loop
 unfolding items no-edges
-loop-holds c h init = rw (c .no-edge .ensures)
-
-edge-next-requires : tie.Need-edge-next-requires Inv-loop μ-loop
-edge-next-requires c κs = search needs
+loop-holds c h init = rw (c .blank-edge .ensures)
 
 marked-requires : tie.Need-marked-requires Inv-loop μ-loop
 marked-requires c κs = rw (c .before .before .edge-next .ensures) (channel-small _ _ _ _ _)
@@ -61,17 +55,14 @@ one-edge :
     let now = whole (with-channels h (c .if1 .channels)) init (c .if1 .edges) (c .if1 .n) in
     let before = whole (with-channels h (loop .channels)) init (loop .edges) (loop .n) in
     state-of (c .before .edge-next .result .status) (args .names) now
-    ≡ edge (args .s .now) (state-of (loop .st) (args .names) before)
-unfolding edge with-edge
+    ≡ edge-item (args .s .now) (state-of (loop .st) (args .names) before)
+unfolding edge-item with-edge
 one-edge c h init =
     let full = leb edge-limit (c .before .before .loop .n) in
     ⊎-elim
     (λ w. rw (w .3, w .4, w .5, ← c .before .edge-next .ensures, not-true full (w .0 .taken), ← w .2 .ensures))
     (λ w. rw (w .1, w .2, w .3, ← c .before .edge-next .ensures, not-false full (w .0 .left)))
     (c .if1 .came)
-
-after-item-requires : tie.Need-after-item-requires Inv-loop μ-loop
-after-item-requires c κs = search needs
 
 returns : tie.Need-returns Inv-loop μ-loop
 returns c h init =
@@ -101,14 +92,14 @@ edges-spec =
     (tie.spec
     Inv-loop
     μ-loop
-    no-edge-requires
+    (λ c κs. search needs)
     loop-holds
-    edge-next-requires
+    (λ c κs. search needs)
     marked-requires
     mul-edges
     array-set-from-edges
     add-n
-    after-item-requires
+    (λ c κs. search needs)
     returns
     sub-room
     loop-less

@@ -6,16 +6,16 @@ use mathlib.Core.Path.{_≡_, sym, _∙_}
 use mathlib.Core.Logic.{⊎-elim}
 use mathlib.Core.List.{List}
 use Prim.Native.Nat.{ℕ, _<_}
-use Rattle.reader_record.specs.Limits.{channel-limit, clock-limit, location-limit}
 use Rattle.reader_record.specs.declared.Edge.{Edge}
 use Rattle.reader_lists.specs.State.{with-channel, with-clock, with-location}
-use Rattle.reader_lists.specs.Lists.{channel, clock, location, one-item, limit, items-from, items}
+use Rattle.reader_lists.specs.Lists.{channel-item, clock-item, location-item, one-item, limit, items-from, items}
 use Rattle.reader_lists.specs.Turns.{item, state-of}
 use Rattle.reader_lists.specs.Heads.{whole}
 use Rattle.reader_lists.proofs.Laws.{items-last, items-more, more-room}
 use Rattle.reader_lists.proofs.Laws.{slots-fit, room-for, not-full, full, one-over}
 use Rattle.reader_lists.proofs.named_items.Statement.{statement}
 use Rattle.reader_lists.proofs.named_items.Tie as tie
+use Rattle.limits.specs.Limits.{channel-limit, clock-limit, location-limit}
 
 abbrev Inv-loop : tie.InvT-loop
 Inv-loop s k st₀ names₀ head₀ room₀ st names head room =
@@ -26,34 +26,13 @@ Inv-loop s k st₀ names₀ head₀ room₀ st names head room =
 abbrev μ-loop : tie.MeasureT-loop
 μ-loop s k st₀ names₀ head₀ room₀ st names head room = room
 
-limit-requires : tie.Need-limit-requires Inv-loop μ-loop
-limit-requires c κs = search needs
-
 loop-holds : tie.Need-loop-holds Inv-loop μ-loop
 loop-holds c init edges count = rw (c .limit .ensures)
-
-count-requires : tie.Need-count-requires Inv-loop μ-loop
-count-requires c κs = search needs
-
-first-slot-requires : tie.Need-first-slot-requires Inv-loop μ-loop
-first-slot-requires c κs = search needs
-
-limit-requires-2 : tie.Need-limit-requires-2 Inv-loop μ-loop
-limit-requires-2 c κs = search needs
 
 declare-requires : tie.Need-declare-requires Inv-loop μ-loop
 declare-requires c κs =
     let start = c .before .before .before .before .before .before .before .before in
     (rw (c .before .first-slot .ensures, c .limit2 .ensures) (slots-fit (start .args .k)), start .pre)
-
-limit-requires-3 : tie.Need-limit-requires-3 Inv-loop μ-loop
-limit-requires-3 c κs = search needs
-
-enum-told : tie.Need-enum-told Inv-loop μ-loop
-enum-told c = search needs
-
-unused-requires : tie.Need-unused-requires Inv-loop μ-loop
-unused-requires c κs = search needs
 
 channel-room : (c : tie.After-unused Inv-loop μ-loop) →
     c .before .before .before .before .before .before .before .before .before .before .count .result < channel-limit
@@ -70,9 +49,6 @@ element-set-from-channel c = channel-room c
 add-head : tie.Need-add-head Inv-loop μ-loop
 add-head c = omega (arith, channel-room c)
 
-enum-told-2 : tie.Need-enum-told-2 Inv-loop μ-loop
-enum-told-2 c = search needs
-
 clock-room : (c : tie.After-enum-told2 Inv-loop μ-loop) →
     c .before .before .before .before .before .before .before .before .before .count .result < clock-limit
 clock-room c =
@@ -87,12 +63,6 @@ element-set-from-name c = clock-room c
 
 add-head-2 : tie.Need-add-head-2 Inv-loop μ-loop
 add-head-2 c = omega (arith, clock-room c)
-
-enum-told-3 : tie.Need-enum-told-3 Inv-loop μ-loop
-enum-told-3 c = search needs
-
-invariant-requires : tie.Need-invariant-requires Inv-loop μ-loop
-invariant-requires c κs = search needs
 
 location-room : (c : tie.After-invariant2 Inv-loop μ-loop) →
     c .before .before .before .before .before .before .before .before .before .before .before .count .result
@@ -119,7 +89,7 @@ one-named :
     let before = state-of (loop .st) (loop .names) (whole (loop .head) init edges count) in
     state-of (c .if1 .st) (c .if1 .names) (whole (c .if1 .head) init edges count)
     ≡ one-item (item (args .k)) (args .s .now) before
-unfolding channel clock location with-channel with-clock with-location
+unfolding channel-item clock-item location-item with-channel with-clock with-location
 one-named c init edges count =
     let a = c .before .before in
     let d = a .declare .ensures in
@@ -160,12 +130,6 @@ one-named c init edges count =
     (λ w. rw (w .1, w .2, w .3, d, f, l, n) (one-over k _ _ (full text k m n (w .0 .left))))))
     (c .if1 .came)
 
-after-item-requires : tie.Need-after-item-requires Inv-loop μ-loop
-after-item-requires c κs = search needs
-
-head-read-requires : tie.Need-head-read-requires Inv-loop μ-loop
-head-read-requires c κs = search needs
-
 returns : tie.Need-returns Inv-loop μ-loop
 unfolding items
 returns c init edges count =
@@ -197,29 +161,29 @@ named-items-spec =
     (tie.spec
     Inv-loop
     μ-loop
-    limit-requires
+    (λ c κs. search needs)
     loop-holds
-    count-requires
-    first-slot-requires
-    limit-requires-2
+    (λ c κs. search needs)
+    (λ c κs. search needs)
+    (λ c κs. search needs)
     declare-requires
-    limit-requires-3
-    enum-told
-    unused-requires
+    (λ c κs. search needs)
+    (λ c. search needs)
+    (λ c κs. search needs)
     mul-channel
     element-set-from-channel
     add-head
-    enum-told-2
+    (λ c. search needs)
     mul-name
     element-set-from-name
     add-head-2
-    enum-told-3
-    invariant-requires
+    (λ c. search needs)
+    (λ c κs. search needs)
     mul-location
     element-set-from-location
     add-head-3
-    after-item-requires
-    head-read-requires
+    (λ c κs. search needs)
+    (λ c κs. search needs)
     returns
     sub-room
     loop-less

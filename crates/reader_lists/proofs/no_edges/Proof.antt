@@ -4,12 +4,9 @@ use Rattle.reader_lists.specs.Heads.{no-edges}
 use Rattle.reader_lists.proofs.no_edges.Statement.{statement}
 use Rattle.reader_lists.proofs.no_edges.Tie as tie
 
-no-edge-requires : tie.Need-no-edge-requires
-no-edge-requires c κs = search needs
-
 returns : tie.Need-returns
 unfolding no-edges
-returns c = rw (c .no-edge .ensures)
+returns c = rw (c .blank-edge .ensures)
 
 pub no-edges-spec : {M : Type 1} → statement M
-no-edges-spec = tie.close (tie.spec no-edge-requires returns)
+no-edges-spec = tie.close (tie.spec (λ c κs. search needs) returns)

@@ -5,12 +5,9 @@ use Rattle.reader_lists.specs.Heads.{no-edges}
 use Rattle.reader_lists.proofs.no_head.Statement.{statement}
 use Rattle.reader_lists.proofs.no_head.Tie as tie
 
-no-constraint-requires : tie.Need-no-constraint-requires
-no-constraint-requires c κs = search needs
-
 returns : tie.Need-returns
 unfolding no-text no-edges
-returns c = rw (c .no-constraint .ensures)
+returns c = rw (c .blank-constraint .ensures)
 
 pub no-head-spec : {M : Type 1} → statement M
-no-head-spec = tie.close (tie.spec no-constraint-requires returns)
+no-head-spec = tie.close (tie.spec (λ c κs. search needs) returns)

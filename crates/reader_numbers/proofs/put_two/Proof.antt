@@ -1,22 +1,10 @@
 -- `reader_numbers::put_two` meets its contract, by the callees' contracts and the laws of numbers in a row.
 use mathlib.Core.Path.{refl}
 use mathlib.Core.List.{[], _∷_}
-use Rattle.reader_numbers.specs.Laws.{joined}
+use Rattle.reader_numbers.proofs.Laws.{joined}
 use borrow.Author.Needs.{needs}
 use Rattle.reader_numbers.proofs.put_two.Statement.{statement}
 use Rattle.reader_numbers.proofs.put_two.Tie as tie
-
-put-requires : tie.Need-put-requires
-put-requires c κs = search needs
-
-add-put : tie.Need-add-put
-add-put c = search needs
-
-put-requires-2 : tie.Need-put-requires-2
-put-requires-2 c κs = search needs
-
-same-length : tie.Need-same-length
-same-length c = search needs
 
 returns : tie.Need-returns
 returns c =
@@ -25,4 +13,4 @@ returns c =
     .before .put .ensures) (c .before .before .put2 .ensures) refl
 
 pub put-two-spec : {M : Type 1} → statement M
-put-two-spec = tie.close (tie.spec put-requires add-put put-requires-2 same-length returns)
+put-two-spec = tie.close (tie.spec (λ c κs. search needs) (λ c. search needs) (λ c κs. search needs) (λ c. search needs) returns)

@@ -2,32 +2,14 @@
 use mathlib.Core.Path.{refl}
 use mathlib.Core.List.{[], _∷_, _++_}
 use native.Mathlib.Omega.{arith}
+use Rattle.limits.specs.Limits.{channel-limit, clock-limit, location-limit, edge-limit}
+use Rattle.reader_numbers.specs.Layout.{name-size, channel-size, location-size}
 use Rattle.reader_numbers.specs.Numbers.{rows, counts, channel-row, clock-row, location-row, edge-row, numbers}
-use Rattle.reader_numbers.specs.Laws.{joined, rows-after, channel-length, clock-length, location-length}
+use Rattle.reader_numbers.specs.Lengths.{rows-after, channel-length, clock-length, location-length}
+use Rattle.reader_numbers.proofs.Laws.{joined}
 use borrow.Author.Needs.{needs}
 use Rattle.reader_numbers.proofs.write.Statement.{statement}
 use Rattle.reader_numbers.proofs.write.Tie as tie
-
-put-three-requires : tie.Need-put-three-requires
-put-three-requires c κs = search needs
-
-put-three-requires-2 : tie.Need-put-three-requires-2
-put-three-requires-2 c κs = search needs
-
-write-channels-requires : tie.Need-write-channels-requires
-write-channels-requires c κs = search needs
-
-write-clocks-requires : tie.Need-write-clocks-requires
-write-clocks-requires c κs = search needs
-
-write-locations-requires : tie.Need-write-locations-requires
-write-locations-requires c κs = search needs
-
-write-edges-requires : tie.Need-write-edges-requires
-write-edges-requires c κs = search needs
-
-same-length : tie.Need-same-length
-same-length c = search needs
 
 returns : tie.Need-returns
 unfolding numbers counts
@@ -37,12 +19,12 @@ returns c =
     let out = args .out .now in
     let t = args .t in
     let head = counts t (args .states) in
-    let channels = rows 16 (channel-row t) in
-    let clocks = rows 3 (clock-row t) in
-    let locations = rows 32 (location-row t) in
-    let to-channels = rows-after head 3 16 (channel-row t) (channel-length t) in
-    let to-clocks = rows-after (head ++ channels) 2 3 (clock-row t) (clock-length t) in
-    let to-locations = rows-after ((head ++ channels) ++ clocks) 15 32 (location-row t) (location-length t) in
+    let channels = rows channel-limit (channel-row t) in
+    let clocks = rows clock-limit (clock-row t) in
+    let locations = rows location-limit (location-row t) in
+    let to-channels = rows-after head channel-size channel-limit (channel-row t) (channel-length t) in
+    let to-clocks = rows-after (head ++ channels) name-size clock-limit (clock-row t) (clock-length t) in
+    let to-locations = rows-after ((head ++ channels) ++ clocks) location-size location-limit (location-row t) (location-length t) in
     let counted =
     joined out 0 (t .«channel_count» ∷ t .«clock_count» ∷ t .«location_count» ∷ [])
     (t .init ∷ t .«edge_count» ∷ args .states ∷ []) (c .before .before .before .before .before .before .before
@@ -59,18 +41,18 @@ returns c =
     joined out 0 ((head ++ channels) ++ clocks) locations clocked (c .before .before .before .before .before
     .before .write-locations .ensures)
     (omega (arith, to-channels, to-clocks)) in
-    joined out 0 (((head ++ channels) ++ clocks) ++ locations) (rows 128 (edge-row t)) located
+    joined out 0 (((head ++ channels) ++ clocks) ++ locations) (rows edge-limit (edge-row t)) located
     (c .before .before .write-edges .ensures) (omega (arith, to-channels, to-clocks, to-locations))
 
 pub write-spec : {M : Type 1} → statement M
 write-spec =
     tie.close
     (tie.spec
-    put-three-requires
-    put-three-requires-2
-    write-channels-requires
-    write-clocks-requires
-    write-locations-requires
-    write-edges-requires
-    same-length
+    (λ c κs. search needs)
+    (λ c κs. search needs)
+    (λ c κs. search needs)
+    (λ c κs. search needs)
+    (λ c κs. search needs)
+    (λ c κs. search needs)
+    (λ c. search needs)
     returns)

@@ -5,15 +5,6 @@ use Rattle.reader_parts.specs.Status.{ahead}
 use Rattle.reader_parts.proofs.ahead.Statement.{statement}
 use Rattle.reader_parts.proofs.ahead.Tie as tie
 
-enum-told : tie.Need-enum-told
-enum-told c = search needs
-
-enum-known-st : tie.Need-enum-known-st
-enum-known-st c = search needs
-
-scan-requires : tie.Need-scan-requires
-scan-requires c κs = search needs
-
 returns : tie.Need-returns
 unfolding ahead
 returns c = rw (c .enum-told .given .1)
@@ -23,4 +14,4 @@ unfolding ahead
 returns-2 c = rw (c .before .before .before .st .given .1, sym (c .before .scan .ensures))
 
 pub ahead-spec : {M : Type 1} → statement M
-ahead-spec = tie.close (tie.spec enum-told enum-known-st scan-requires returns returns-2)
+ahead-spec = tie.close (tie.spec (λ c. search needs) (λ c. search needs) (λ c κs. search needs) returns returns-2)

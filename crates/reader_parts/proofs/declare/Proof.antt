@@ -7,27 +7,6 @@ use Rattle.reader_parts.specs.Names.{declare-name, declare}
 use Rattle.reader_parts.proofs.declare.Statement.{statement}
 use Rattle.reader_parts.proofs.declare.Tie as tie
 
-name-next-requires : tie.Need-name-next-requires
-name-next-requires c κs = search needs
-
-enum-known-came : tie.Need-enum-known-came
-enum-known-came c = search needs
-
-no-declaration-requires : tie.Need-no-declaration-requires
-no-declaration-requires c κs = search needs
-
-enum-known-came-2 : tie.Need-enum-known-came-2
-enum-known-came-2 c = search needs
-
-find-requires : tie.Need-find-requires
-find-requires c κs = search needs
-
-cast-t19 : tie.Need-cast-t19
-cast-t19 c = search needs
-
-no-declaration-requires-2 : tie.Need-no-declaration-requires-2
-no-declaration-requires-2 c κs = search needs
-
 returns : tie.Need-returns
 unfolding declare declare-name
 returns c = rw (
@@ -39,12 +18,6 @@ returns c = rw (
   c .no-declaration2 .ensures,
 )
 
-cast-t20 : tie.Need-cast-t20
-cast-t20 c = search needs
-
-no-declaration-requires-3 : tie.Need-no-declaration-requires-3
-no-declaration-requires-3 c κs = search needs
-
 returns-2 : tie.Need-returns-2
 unfolding declare declare-name
 returns-2 c = rw (
@@ -55,15 +28,6 @@ returns-2 c = rw (
   le-leb _ _ (c .before .before .if2 .taken),
   c .no-declaration3 .ensures,
 )
-
-add-all : tie.Need-add-all
-add-all c = search needs
-
-mul-all : tie.Need-mul-all
-mul-all c = search needs
-
-array-set-from-all : tie.Need-array-set-from-all
-array-set-from-all c = search needs
 
 returns-3 : tie.Need-returns-3
 unfolding declare declare-name
@@ -88,19 +52,19 @@ pub declare-spec : {M : Type 1} → statement M
 declare-spec =
     tie.close
     (tie.spec
-    name-next-requires
-    enum-known-came
-    no-declaration-requires
-    enum-known-came-2
-    find-requires
-    cast-t19
-    no-declaration-requires-2
+    (λ c κs. search needs)
+    (λ c. search needs)
+    (λ c κs. search needs)
+    (λ c. search needs)
+    (λ c κs. search needs)
+    (λ c. search needs)
+    (λ c κs. search needs)
     returns
-    cast-t20
-    no-declaration-requires-3
+    (λ c. search needs)
+    (λ c κs. search needs)
     returns-2
-    add-all
-    mul-all
-    array-set-from-all
+    (λ c. search needs)
+    (λ c. search needs)
+    (λ c. search needs)
     returns-3
     returns-4)

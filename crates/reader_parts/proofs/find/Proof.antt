@@ -19,30 +19,6 @@ Inv-loop s names place len i₀ i =
 abbrev μ-loop : tie.MeasureT-loop
 μ-loop s names place len i₀ i = name-slots - i
 
-cast-place : tie.Need-cast-place Inv-loop μ-loop
-cast-place c = search needs
-
-cast-len : tie.Need-cast-len Inv-loop μ-loop
-cast-len c = search needs
-
-loop-holds : tie.Need-loop-holds Inv-loop μ-loop
-loop-holds c = search needs
-
-mul-n : tie.Need-mul-n Inv-loop μ-loop
-mul-n c = search needs
-
-array-copy-out-n : tie.Need-array-copy-out-n Inv-loop μ-loop
-array-copy-out-n c = search needs
-
-cast-is-same : tie.Need-cast-is-same Inv-loop μ-loop
-cast-is-same c = search needs
-
-cast-is-same-2 : tie.Need-cast-is-same-2 Inv-loop μ-loop
-cast-is-same-2 c = search needs
-
-is-same-requires : tie.Need-is-same-requires Inv-loop μ-loop
-is-same-requires c κs = search needs
-
 returns : tie.Need-returns Inv-loop μ-loop
 unfolding slot-of differs
 returns c =
@@ -53,12 +29,6 @@ returns c =
     (args .t2) (loop .i)
     (record { place = 0; len = 0 }) (omega arith) (rw (sym (c .before .is-same .ensures), c .if1 .taken)))
     ∙ loop .inv
-
-add-i : tie.Need-add-i Inv-loop μ-loop
-add-i c = search needs
-
-loop-less : tie.Need-loop-less Inv-loop μ-loop
-loop-less c = search needs
 
 loop-again : tie.Need-loop-again Inv-loop μ-loop
 unfolding slot-of differs
@@ -83,16 +53,16 @@ find-spec =
     (tie.spec
     Inv-loop
     μ-loop
-    cast-place
-    cast-len
-    loop-holds
-    mul-n
-    array-copy-out-n
-    cast-is-same
-    cast-is-same-2
-    is-same-requires
+    (λ c. search needs)
+    (λ c. search needs)
+    (λ c. search needs)
+    (λ c. search needs)
+    (λ c. search needs)
+    (λ c. search needs)
+    (λ c. search needs)
+    (λ c κs. search needs)
     returns
-    add-i
-    loop-less
+    (λ c. search needs)
+    (λ c. search needs)
     loop-again
     returns-2)

@@ -4,26 +4,11 @@ use native.Mathlib.Omega.{arith}
 use borrow.Author.Tests.{eq-eqb, ne-eqb, lt-ltb, le-ltb}
 use mathlib.Core.Path.{sym}
 use lib.ListN.{length}
-use Rattle.reader_record.specs.Limits.{largest-name}
 use Rattle.reader_tokens.specs.Spans.{found-spans}
 use Rattle.reader_parts.specs.Status.{name-of, name-next}
 use Rattle.reader_parts.proofs.name_next.Statement.{statement}
 use Rattle.reader_parts.proofs.name_next.Tie as tie
-
-enum-known-st : tie.Need-enum-known-st
-enum-known-st c = search needs
-
-no-name-read-requires : tie.Need-no-name-read-requires
-no-name-read-requires c κs = search needs
-
-enum-known-st-2 : tie.Need-enum-known-st-2
-enum-known-st-2 c = search needs
-
-scan-requires : tie.Need-scan-requires
-scan-requires c κs = search needs
-
-no-name-read-requires-2 : tie.Need-no-name-read-requires-2
-no-name-read-requires-2 c κs = search needs
+use Rattle.limits.specs.Limits.{largest-name}
 
 returns : tie.Need-returns
 unfolding name-next name-of
@@ -34,12 +19,6 @@ returns c = rw (
   ne-eqb _ _ (c .before .if1 .taken),
   c .no-name-read2 .ensures,
 )
-
-length-requires : tie.Need-length-requires
-length-requires c κs = search needs
-
-no-name-read-requires-3 : tie.Need-no-name-read-requires-3
-no-name-read-requires-3 c κs = search needs
 
 returns-2 : tie.Need-returns-2
 unfolding name-next name-of
@@ -63,9 +42,6 @@ cast-t15 c =
     let spans = found-spans _ _ _ (scan .ensures) (c .before .before .if1 .left) in
     omega (arith, spans .some, spans .inside, start .pre)
 
-cast-t16 : tie.Need-cast-t16
-cast-t16 c = search needs
-
 returns-3 : tie.Need-returns-3
 unfolding name-next
 returns-3 c = rw (c .before .before .st .given .1, c .no-name-read .ensures)
@@ -86,16 +62,16 @@ pub name-next-spec : {M : Type 1} → statement M
 name-next-spec =
     tie.close
     (tie.spec
-    enum-known-st
-    no-name-read-requires
-    enum-known-st-2
-    scan-requires
-    no-name-read-requires-2
+    (λ c. search needs)
+    (λ c κs. search needs)
+    (λ c. search needs)
+    (λ c κs. search needs)
+    (λ c κs. search needs)
     returns
-    length-requires
-    no-name-read-requires-3
+    (λ c κs. search needs)
+    (λ c κs. search needs)
     returns-2
     cast-t15
-    cast-t16
+    (λ c. search needs)
     returns-3
     returns-4)

@@ -6,15 +6,6 @@ use Rattle.reader_parts.specs.Status.{take}
 use Rattle.reader_parts.proofs.take.Statement.{statement}
 use Rattle.reader_parts.proofs.take.Tie as tie
 
-enum-known-st : tie.Need-enum-known-st
-enum-known-st c = search needs
-
-enum-known-st-2 : tie.Need-enum-known-st-2
-enum-known-st-2 c = search needs
-
-scan-requires : tie.Need-scan-requires
-scan-requires c κs = search needs
-
 returns : tie.Need-returns
 unfolding take
 returns c = rw (
@@ -38,4 +29,4 @@ returns-3 c = rw (
 pub take-spec : {M : Type 1} → statement M
 take-spec =
     tie.close
-    (tie.spec enum-known-st enum-known-st-2 scan-requires returns returns-2 returns-3)
+    (tie.spec (λ c. search needs) (λ c. search needs) (λ c κs. search needs) returns returns-2 returns-3)

@@ -6,27 +6,6 @@ use Rattle.reader_parts.specs.Names.{use-of, use-name}
 use Rattle.reader_parts.proofs.use_name.Statement.{statement}
 use Rattle.reader_parts.proofs.use_name.Tie as tie
 
-name-next-requires : tie.Need-name-next-requires
-name-next-requires c κs = search needs
-
-enum-known-came : tie.Need-enum-known-came
-enum-known-came c = search needs
-
-no-use-requires : tie.Need-no-use-requires
-no-use-requires c κs = search needs
-
-enum-known-came-2 : tie.Need-enum-known-came-2
-enum-known-came-2 c = search needs
-
-find-requires : tie.Need-find-requires
-find-requires c κs = search needs
-
-cast-t19 : tie.Need-cast-t19
-cast-t19 c = search needs
-
-no-use-requires-2 : tie.Need-no-use-requires-2
-no-use-requires-2 c κs = search needs
-
 returns : tie.Need-returns
 unfolding use-name use-of
 returns c = rw (
@@ -38,15 +17,6 @@ returns c = rw (
   c .no-use2 .ensures,
 )
 
-add-if2 : tie.Need-add-if2
-add-if2 c = search needs
-
-cast-t21 : tie.Need-cast-t21
-cast-t21 c = search needs
-
-no-use-requires-3 : tie.Need-no-use-requires-3
-no-use-requires-3 c κs = search needs
-
 returns-2 : tie.Need-returns-2
 unfolding use-name use-of
 returns-2 c = rw (
@@ -57,12 +27,6 @@ returns-2 c = rw (
   le-ltb _ _ (c .before .before .if2 .taken),
   c .no-use3 .ensures,
 )
-
-cast-t22 : tie.Need-cast-t22
-cast-t22 c = search needs
-
-no-use-requires-4 : tie.Need-no-use-requires-4
-no-use-requires-4 c κs = search needs
 
 returns-3 : tie.Need-returns-3
 unfolding use-name use-of
@@ -82,9 +46,6 @@ returns-3 c =
       c .before .before .if3 .taken,
       c .no-use4 .ensures,
     )
-
-cast-t23 : tie.Need-cast-t23
-cast-t23 c = search needs
 
 returns-4 : tie.Need-returns-4
 unfolding use-name use-of
@@ -109,21 +70,21 @@ pub use-name-spec : {M : Type 1} → statement M
 use-name-spec =
     tie.close
     (tie.spec
-    name-next-requires
-    enum-known-came
-    no-use-requires
-    enum-known-came-2
-    find-requires
-    cast-t19
-    no-use-requires-2
+    (λ c κs. search needs)
+    (λ c. search needs)
+    (λ c κs. search needs)
+    (λ c. search needs)
+    (λ c κs. search needs)
+    (λ c. search needs)
+    (λ c κs. search needs)
     returns
-    add-if2
-    cast-t21
-    no-use-requires-3
+    (λ c. search needs)
+    (λ c. search needs)
+    (λ c κs. search needs)
     returns-2
-    cast-t22
-    no-use-requires-4
+    (λ c. search needs)
+    (λ c κs. search needs)
     returns-3
-    cast-t23
+    (λ c. search needs)
     returns-4
     returns-5)

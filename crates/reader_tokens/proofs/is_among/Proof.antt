@@ -15,21 +15,9 @@ Inv-loop b set i₀ i = member b (drop i set) ≡ member b set
 abbrev μ-loop : tie.MeasureT-loop
 μ-loop b set i₀ i = length set - i
 
-loop-holds : tie.Need-loop-holds Inv-loop μ-loop
-loop-holds c = search needs
-
-shared-slice-read-if1 : tie.Need-shared-slice-read-if1 Inv-loop μ-loop
-shared-slice-read-if1 c = search needs
-
 returns : tie.Need-returns Inv-loop μ-loop
 returns c = sym (member-yes _ _ (c .before .before .before .loop .i) (omega arith) (c .if1 .taken))
     ∙ c .before .before .before .loop .inv
-
-add-i : tie.Need-add-i Inv-loop μ-loop
-add-i c = search needs
-
-loop-less : tie.Need-loop-less Inv-loop μ-loop
-loop-less c = search needs
 
 loop-again : tie.Need-loop-again Inv-loop μ-loop
 loop-again c = sym (member-no _ _ (c .before .before .before .loop .i) (omega arith) (c .if1 .left))
@@ -44,10 +32,10 @@ is-among-spec =
     (tie.spec
     Inv-loop
     μ-loop
-    loop-holds
-    shared-slice-read-if1
+    (λ c. search needs)
+    (λ c. search needs)
     returns
-    add-i
-    loop-less
+    (λ c. search needs)
+    (λ c. search needs)
     loop-again
     returns-2)

@@ -1,6 +1,7 @@
 -- `is_pair` is `is-pair`: each first byte with its second.
 use borrow.Author.Tests.{ne-eqb}
 use mathlib.Core.Bool.{or-false}
+use Prim.Native.Char.{code}
 use Rattle.reader_tokens.specs.Tokens.{is-pair}
 use Rattle.reader_tokens.proofs.is_pair.Statement.{statement}
 use Rattle.reader_tokens.proofs.is_pair.Tie as tie
@@ -28,12 +29,12 @@ returns-5 c = rw (c .match .keys5)
 returns-6 : tie.Need-returns-6
 unfolding is-pair
 returns-6 c = rw (
-  ne-eqb _ 45 (c .match .rest .0 .0 .0 .0 .1),
-  ne-eqb _ 60 (c .match .rest .0 .0 .0 .1),
-  ne-eqb _ 62
+  ne-eqb _ (code "-") (c .match .rest .0 .0 .0 .0 .1),
+  ne-eqb _ (code "<") (c .match .rest .0 .0 .0 .1),
+  ne-eqb _ (code ">")
       (c .match .rest .0 .0 .1),
-  ne-eqb _ 61 (c .match .rest .0 .1),
-  ne-eqb _ 38 (c .match .rest .1),
+  ne-eqb _ (code "=") (c .match .rest .0 .1),
+  ne-eqb _ (code "&") (c .match .rest .1),
 )
 
 pub is-pair-spec : {M : Type 1} → statement M

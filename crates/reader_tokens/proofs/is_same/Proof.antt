@@ -10,12 +10,9 @@ returns : tie.Need-returns
 unfolding same
 returns c = rw (ne-eqb _ _ (c .if1 .taken))
 
-agrees-requires : tie.Need-agrees-requires
-agrees-requires c κs = search needs
-
 returns-2 : tie.Need-returns-2
 unfolding same
 returns-2 c = rw (eq-eqb _ _ (c .before .if1 .left), sym (c .agrees .ensures))
 
 pub is-same-spec : {M : Type 1} → statement M
-is-same-spec = tie.close (tie.spec returns agrees-requires returns-2)
+is-same-spec = tie.close (tie.spec returns (λ c κs. search needs) returns-2)

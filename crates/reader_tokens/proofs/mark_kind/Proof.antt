@@ -5,21 +5,6 @@ use Rattle.reader_tokens.specs.Tokens.{mark-kind}
 use Rattle.reader_tokens.proofs.mark_kind.Statement.{statement}
 use Rattle.reader_tokens.proofs.mark_kind.Tie as tie
 
-is-pair-requires : tie.Need-is-pair-requires
-is-pair-requires c κs = search needs
-
-wide-requires : tie.Need-wide-requires
-wide-requires c κs = search needs
-
-mul-result : tie.Need-mul-result
-mul-result c = search needs
-
-wide-requires-2 : tie.Need-wide-requires-2
-wide-requires-2 c κs = search needs
-
-add-result : tie.Need-add-result
-add-result c = search needs
-
 returns : tie.Need-returns
 unfolding mark-kind
 returns c =
@@ -31,12 +16,6 @@ returns c =
           .ensures,
       c .wide2 .ensures,
     )
-
-is-single-requires : tie.Need-is-single-requires
-is-single-requires c κs = search needs
-
-wide-requires-3 : tie.Need-wide-requires-3
-wide-requires-3 c κs = search needs
 
 returns-2 : tie.Need-returns-2
 unfolding mark-kind
@@ -68,13 +47,13 @@ pub mark-kind-spec : {M : Type 1} → statement M
 mark-kind-spec =
     tie.close
     (tie.spec
-    is-pair-requires
-    wide-requires
-    mul-result
-    wide-requires-2
-    add-result
+    (λ c κs. search needs)
+    (λ c κs. search needs)
+    (λ c. search needs)
+    (λ c κs. search needs)
+    (λ c. search needs)
     returns
-    is-single-requires
-    wide-requires-3
+    (λ c κs. search needs)
+    (λ c κs. search needs)
     returns-2
     returns-3)

@@ -1,17 +1,17 @@
--- `number_at` is the capped value: capping on the way does not change it.
+-- `number_at` is the clamped value: clamping on the way does not change it.
 use borrow.Author.Needs.{needs}
 use borrow.Author.Tests.{not-true, not-false}
 use native.Mathlib.Omega.{arith}
 use Prim.Native.Nat.{_-_, _≤_}
 use mathlib.Core.Path.{_≡_, refl, sym, _∙_, ap}
 use lib.ListN.{length, drop}
-use Rattle.reader_tokens.specs.Scan.{value, capped}
-use Rattle.reader_tokens.proofs.Scan.{value-yes, value-no, value-end, capped-small, capped-value, capped-bound}
+use Rattle.reader_tokens.specs.Scan.{numeral-value, over-constant, clamped}
+use Rattle.reader_tokens.proofs.Scan.{value-yes, value-no, value-end, clamped-small, clamped-value, clamped-bound}
 use Rattle.reader_tokens.proofs.number_at.Statement.{statement}
 use Rattle.reader_tokens.proofs.number_at.Tie as tie
 
 abbrev Inv-loop : tie.InvT-loop
-Inv-loop s p v₀ i₀ v i = (v ≤ 1001) × (capped (value v (drop i s)) ≡ capped (value 0 (drop p s)))
+Inv-loop s p v₀ i₀ v i = (v ≤ over-constant) × (clamped (numeral-value v (drop i s)) ≡ clamped (numeral-value 0 (drop p s)))
 
 abbrev μ-loop : tie.MeasureT-loop
 μ-loop s p v₀ i₀ v i = length s - i
@@ -19,32 +19,20 @@ abbrev μ-loop : tie.MeasureT-loop
 loop-holds : tie.Need-loop-holds Inv-loop μ-loop
 loop-holds c = (omega arith, refl)
 
-shared-slice-read-b : tie.Need-shared-slice-read-b Inv-loop μ-loop
-shared-slice-read-b c = search needs
-
-is-digit-requires : tie.Need-is-digit-requires Inv-loop μ-loop
-is-digit-requires c κs = search needs
-
 returns : tie.Need-returns Inv-loop μ-loop
 returns c =
     let loop = c .before .before .before .before .loop in
-    sym (capped-small _ (loop .inv .0)) ∙ ap capped (sym (value-no _
+    sym (clamped-small _ (loop .inv .0)) ∙ ap clamped (sym (value-no _
     (loop .i) _ (omega arith) (sym (c .before .is-digit .ensures) ∙ not-true _
     (c .if1 .taken)))) ∙ loop .inv .1
 
 with-digit-requires : tie.Need-with-digit-requires Inv-loop μ-loop
 with-digit-requires c κs = (search needs, sym (c .before .is-digit .ensures) ∙ not-false _ (c .if1 .left))
 
-add-i : tie.Need-add-i Inv-loop μ-loop
-add-i c = search needs
-
-loop-less : tie.Need-loop-less Inv-loop μ-loop
-loop-less c = search needs
-
 loop-again : tie.Need-loop-again Inv-loop μ-loop
 loop-again c = rw (c .with-digit .ensures) (
-  capped-bound _,
-  capped-value _ _ ∙ ap capped (sym (value-yes _
+  clamped-bound _,
+  clamped-value _ _ ∙ ap clamped (sym (value-yes _
       (c .before .before .before .before .before .loop .i) _ (omega arith) (sym
       (c .before .before .is-digit .ensures) ∙ not-false _ (c .before .if1 .left))))
       ∙ c .before .before .before .before .before .loop .inv .1,
@@ -53,7 +41,7 @@ loop-again c = rw (c .with-digit .ensures) (
 returns-2 : tie.Need-returns-2 Inv-loop μ-loop
 returns-2 c =
     let loop = c .before .loop in
-    sym (capped-small _ (loop .inv .0)) ∙ ap capped (sym (value-end _ (loop .i) _
+    sym (clamped-small _ (loop .inv .0)) ∙ ap clamped (sym (value-end _ (loop .i) _
     (omega arith))) ∙ loop .inv .1
 
 pub number-at-spec : {M : Type 1} → statement M
@@ -63,11 +51,11 @@ number-at-spec =
     Inv-loop
     μ-loop
     loop-holds
-    shared-slice-read-b
-    is-digit-requires
+    (λ c. search needs)
+    (λ c κs. search needs)
     returns
     with-digit-requires
-    add-i
-    loop-less
+    (λ c. search needs)
+    (λ c. search needs)
     loop-again
     returns-2)

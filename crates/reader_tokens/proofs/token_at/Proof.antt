@@ -5,15 +5,9 @@ use Rattle.reader_tokens.specs.Tokens.{token-at}
 use Rattle.reader_tokens.proofs.token_at.Statement.{statement}
 use Rattle.reader_tokens.proofs.token_at.Tie as tie
 
-run-end-requires : tie.Need-run-end-requires
-run-end-requires c κs = search needs
-
-token-from-requires : tie.Need-token-from-requires
-token-from-requires c κs = search needs
-
 returns : tie.Need-returns
 unfolding token-at
 returns c = rw (sym (c .before .run-end .ensures), c .token-from .ensures)
 
 pub token-at-spec : {M : Type 1} → statement M
-token-at-spec = tie.close (tie.spec run-end-requires token-from-requires returns)
+token-at-spec = tie.close (tie.spec (λ c κs. search needs) (λ c κs. search needs) returns)

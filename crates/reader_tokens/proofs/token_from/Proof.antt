@@ -6,15 +6,6 @@ use Rattle.reader_tokens.specs.Tokens.{token-from}
 use Rattle.reader_tokens.proofs.token_from.Statement.{statement}
 use Rattle.reader_tokens.proofs.token_from.Tie as tie
 
-shared-slice-read-b : tie.Need-shared-slice-read-b
-shared-slice-read-b c = search needs
-
-is-letter-requires : tie.Need-is-letter-requires
-is-letter-requires c κs = search needs
-
-word-at-requires : tie.Need-word-at-requires
-word-at-requires c κs = search needs
-
 returns : tie.Need-returns
 unfolding token-from
 returns c = rw (
@@ -24,12 +15,6 @@ returns c = rw (
   c .before .if2 .taken,
   c .word-at .ensures,
 )
-
-is-digit-requires : tie.Need-is-digit-requires
-is-digit-requires c κs = search needs
-
-run-end-requires : tie.Need-run-end-requires
-run-end-requires c κs = search needs
 
 returns-2 : tie.Need-returns-2
 unfolding token-from
@@ -43,9 +28,6 @@ returns-2 c = rw (
   c .before .if3 .taken,
   c .run-end .ensures,
 )
-
-mark-at-requires : tie.Need-mark-at-requires
-mark-at-requires c κs = search needs
 
 returns-3 : tie.Need-returns-3
 unfolding token-from
@@ -68,13 +50,13 @@ pub token-from-spec : {M : Type 1} → statement M
 token-from-spec =
     tie.close
     (tie.spec
-    shared-slice-read-b
-    is-letter-requires
-    word-at-requires
+    (λ c. search needs)
+    (λ c κs. search needs)
+    (λ c κs. search needs)
     returns
-    is-digit-requires
-    run-end-requires
+    (λ c κs. search needs)
+    (λ c κs. search needs)
     returns-2
-    mark-at-requires
+    (λ c κs. search needs)
     returns-3
     returns-4)

@@ -5,6 +5,7 @@ use Prim.Native.Nat.{_+_, _-_, _≤_}
 use mathlib.Core.Path.{_≡_, refl, sym, _∙_}
 use mathlib.Core.List.{flatten}
 use lib.ListN.{length, drop}
+use Rattle.reader_tokens.specs.Kinds.{broadcast}
 use Rattle.reader_tokens.specs.Tokens.{words, word-from, word-kind}
 use Rattle.reader_tokens.proofs.Words.{word-yes, word-no, row-next, row-room, word-end}
 use Rattle.reader_tokens.proofs.word_among.Statement.{statement}
@@ -12,7 +13,7 @@ use Rattle.reader_tokens.proofs.word_among.Tie as tie
 
 abbrev Inv-loop : tie.InvT-loop
 Inv-loop s p n row lengths i₀ at₀ i at = (at ≤ length row) ×
-    ((drop at row ≡ flatten (drop i words)) × (word-from (4 + i) (drop i words) n (drop p s) ≡ word-kind n (drop p s)))
+    ((drop at row ≡ flatten (drop i words)) × (word-from (broadcast + i) (drop i words) n (drop p s) ≡ word-kind n (drop p s)))
 
 abbrev μ-loop : tie.MeasureT-loop
 μ-loop s p n row lengths i₀ at₀ i at = length lengths - i
@@ -20,18 +21,6 @@ abbrev μ-loop : tie.MeasureT-loop
 loop-holds : tie.Need-loop-holds Inv-loop μ-loop
 unfolding word-kind
 loop-holds c = (omega arith, (c .before .before .before .pre .0, refl))
-
-mul-l : tie.Need-mul-l Inv-loop μ-loop
-mul-l c = search needs
-
-shared-slice-read-l : tie.Need-shared-slice-read-l Inv-loop μ-loop
-shared-slice-read-l c = search needs
-
-is-same-requires : tie.Need-is-same-requires Inv-loop μ-loop
-is-same-requires c κs = search needs
-
-add-result : tie.Need-add-result Inv-loop μ-loop
-add-result c = search needs
 
 returns : tie.Need-returns Inv-loop μ-loop
 returns c =
@@ -53,12 +42,6 @@ add-at c =
           (loop .inv .1 .0) (loop .inv .0),
     )
 
-add-i : tie.Need-add-i Inv-loop μ-loop
-add-i c = search needs
-
-loop-less : tie.Need-loop-less Inv-loop μ-loop
-loop-less c = search needs
-
 loop-again : tie.Need-loop-again Inv-loop μ-loop
 loop-again c =
     let pre = c .before .before .before .before .before .before .before .before .pre in
@@ -77,7 +60,7 @@ loop-again c =
         sym
             (word-no words _ (pre .1)
             (loop .i) _ (loop .at) (omega arith)
-            (loop .inv .1 .0) 4 _ _ (sym (c .before .is-same .ensures) ∙ c .if1 .left))
+            (loop .inv .1 .0) broadcast _ _ (sym (c .before .is-same .ensures) ∙ c .if1 .left))
             ∙ loop .inv .1 .1,
       ),
     )
@@ -96,13 +79,13 @@ word-among-spec =
     Inv-loop
     μ-loop
     loop-holds
-    mul-l
-    shared-slice-read-l
-    is-same-requires
-    add-result
+    (λ c. search needs)
+    (λ c. search needs)
+    (λ c κs. search needs)
+    (λ c. search needs)
     returns
     add-at
-    add-i
-    loop-less
+    (λ c. search needs)
+    (λ c. search needs)
     loop-again
     returns-2)

@@ -7,18 +7,12 @@ use Rattle.reader_tokens.specs.Progress.{past-from}
 use Rattle.reader_tokens.proofs.word_at.Statement.{statement}
 use Rattle.reader_tokens.proofs.word_at.Tie as tie
 
-run-end-requires : tie.Need-run-end-requires
-run-end-requires c κs = search needs
-
 sub-word-kind : tie.Need-sub-word-kind
 sub-word-kind c = rw (c .run-end .ensures) (past-from is-part _ _)
-
-word-kind-requires : tie.Need-word-kind-requires
-word-kind-requires c κs = search needs
 
 returns : tie.Need-returns
 unfolding word-at
 returns c = rw (sym (c .before .run-end .ensures), sym (c .word-kind .ensures))
 
 pub word-at-spec : {M : Type 1} → statement M
-word-at-spec = tie.close (tie.spec run-end-requires sub-word-kind word-kind-requires returns)
+word-at-spec = tie.close (tie.spec (λ c κs. search needs) sub-word-kind (λ c κs. search needs) returns)

@@ -10,9 +10,6 @@ use Rattle.reader_tokens.proofs.word_kind.Tie as tie
 returns : tie.Need-returns
 returns c = short-is-name _ (c .if1 .taken) _
 
-slice-aggregate-word-among : tie.Need-slice-aggregate-word-among
-slice-aggregate-word-among c = search needs
-
 word-among-requires : tie.Need-word-among-requires
 unfolding words flatten
 word-among-requires c κs = (refl, refl)
@@ -21,4 +18,4 @@ returns-2 : tie.Need-returns-2
 returns-2 c = c .word-among .ensures
 
 pub word-kind-spec : {M : Type 1} → statement M
-word-kind-spec = tie.close (tie.spec returns slice-aggregate-word-among word-among-requires returns-2)
+word-kind-spec = tie.close (tie.spec returns (λ c. search needs) word-among-requires returns-2)

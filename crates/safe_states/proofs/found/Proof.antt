@@ -2,21 +2,19 @@ use borrow.Author.Needs.{needs}
 use mathlib.Core.Path.{_≡_, ap}
 use native.Mathlib.Omega.{arith}
 use lib.ListN.{length}
-use Rattle.clocks_bits.specs.Bits.{length-tab}
-use Rattle.safe_states.specs.Paths.{ready-bounded, ready-bitmap, ready-few, ready-safe, ready-start, ready-found}
+use Rattle.bitmaps.specs.BitLaws.{length-tab}
+use Rattle.safe_states.proofs.Paths.{ready-bounded, ready-bitmap, ready-few, ready-safe, ready-start, ready-found}
 use Rattle.clocks.specs.States.{start-state, input}
-use Rattle.clocks_states.specs.Parts.{start-fits, start-done, inputs-done}
+use Rattle.clocks_states.specs.Laws.{start-fits, start-done, inputs-done}
 use Rattle.safe_states.proofs.found.Statement.{statement}
 use Rattle.safe_states.proofs.found.Tie as tie
+use Rattle.limits.specs.Limits.{step-limit}
 
 inputs-of-requires : tie.Need-inputs-of-requires
 inputs-of-requires c κs = c .before .before .before .before .pre .accepted .formed .channels
 
 add-steps : tie.Need-add-steps
 add-steps c = omega (arith, c .before .before .before .before .before .before .pre .accepted .formed .channels)
-
-slice-aggregate-safe : tie.Need-slice-aggregate-safe
-slice-aggregate-safe c = search needs
 
 safe-requires : tie.Need-safe-requires
 safe-requires c κs =
@@ -25,7 +23,7 @@ safe-requires c κs =
     let inputs = inputs-done (args .t) _ (c .before .before .before .inputs-of .ensures) in (
       ready-bounded (pre),
       (
-        omega (arith, pre .accepted .formed .channels, ap length inputs, length-tab (input (args .t)) 0 17),
+        omega (arith, pre .accepted .formed .channels, ap length inputs, length-tab (input (args .t)) 0 step-limit),
         (ready-bitmap (pre), omega (arith, pre .long, pre .count)),
       ),
     )
@@ -53,9 +51,6 @@ get-requires c κs =
     in
     ready-start (start .pre) _ (kept .0) _ (starts (c .before))
 
-same-length : tie.Need-same-length
-same-length c = search needs
-
 returns : tie.Need-returns
 returns c =
     let calls = c .before .before .before .before .before in
@@ -73,9 +68,9 @@ found-spec =
     (tie.spec
     inputs-of-requires
     add-steps
-    slice-aggregate-safe
+    (λ c. search needs)
     safe-requires
     start-of-requires
     get-requires
-    same-length
+    (λ c. search needs)
     returns)

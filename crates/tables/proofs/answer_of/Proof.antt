@@ -1,97 +1,60 @@
--- `tables::answer_of` meets its contract, by the callees' contracts and the laws of its paths.
-use native.Mathlib.Omega.{arith}
-use Rattle.tables.specs.Broken.{broken-few}
-use Rattle.tables.specs.Paths.{check-of, check-refused}
 use borrow.Author.Needs.{needs}
+use native.Mathlib.Omega.{arith}
+use mathlib.Core.Path.{ap}
+use Rattle.tables.specs.Paths.{check-of}
+use Rattle.tables.specs.declared.CheckAnswer.the-variants.{Refused}
 use Rattle.tables.proofs.answer_of.Statement.{statement}
 use Rattle.tables.proofs.answer_of.Tie as tie
+use Rattle.tables.proofs.answer_of.Reads as reads
+use Rattle.tables.proofs.answer_of.Lts as lts
+use Rattle.refusals.proofs.Refusal.pair_not_allowed.Reads as pair-not-allowed-reads
+use Rattle.refusals.proofs.Refusal.rule_broken.Reads as rule-broken-reads
+use Rattle.refusals.proofs.Refusal.start_pair_not_set.Reads as start-pair-not-set-reads
 
-enum-known-a : tie.Need-enum-known-a
-enum-known-a c = search needs
+-- src/lib.rt:36:31
+-- src/lib.rt:37:58
+-- src/lib.rt:37:58
+-- src/lib.rt:41:33
+-- src/lib.rt:41:63
+-- src/lib.rt:42:29
+-- src/lib.rt:44:34
+rule-broken-requires : tie.Need-rule-broken-requires
+rule-broken-requires c κs =
+    let (i, j) = c .before .before .before .pre .0 _ _ _ (c .before .a3 .given .1) in
+    (c .before .before .before .pre .1 .1, (omega (arith, i, c .before .before .before .pre .1 .0), j))
 
-enum-told : tie.Need-enum-told
-enum-told c = search needs
-
-check-refused-requires : tie.Need-check-refused-requires
-check-refused-requires c κs = search needs
-
-enum-told-2 : tie.Need-enum-told-2
-enum-told-2 c = search needs
-
-check-refused-requires-2 : tie.Need-check-refused-requires-2
-check-refused-requires-2 c κs = search needs
-
-enum-known-a-2 : tie.Need-enum-known-a-2
-enum-known-a-2 c = search needs
-
-check-refused-requires-3 : tie.Need-check-refused-requires-3
-check-refused-requires-3 c κs = search needs
-
-enum-known-a-3 : tie.Need-enum-known-a-3
-enum-known-a-3 c = search needs
-
-mul-check-refused : tie.Need-mul-check-refused
-mul-check-refused c =
-    let args = c .before .before .before .args in
-    let pre = c .before .before .before .pre in
-    let a = c .before .a3 in
-    omega (
-      arith,
-      broken-few (args .n) (args .w) (args .a) (pre .0) (pre .1 .0) (pre .1 .1) (a .given .0 .0)
-          (a .given .0 .1 .0) (a .given .0 .1 .1 .0) (a .given .1),
-    )
-
-add-check-refused : tie.Need-add-check-refused
-add-check-refused c =
-    let args = c .before .before .before .args in
-    let pre = c .before .before .before .pre in
-    let a = c .before .a3 in
-    omega (
-      arith,
-      broken-few (args .n) (args .w) (args .a) (pre .0) (pre .1 .0) (pre .1 .1) (a .given .0 .0)
-          (a .given .0 .1 .0) (a .given .0 .1 .1 .0) (a .given .1),
-    )
-
-check-refused-requires-4 : tie.Need-check-refused-requires-4
-check-refused-requires-4 c κs = search needs
-
+-- src/lib.rt:30:1
 returns : tie.Need-returns
 unfolding check-of
 returns c = rw (c .before .a .given .1)
 
+-- src/lib.rt:30:1
 returns-2 : tie.Need-returns-2
 unfolding check-of
-returns-2 c = rw (c .before .enum-told .given .1) (c .check-refused .ensures)
+returns-2 c = rw (c .before .enum-told .given .1) (ap Refused (c .start-pair-not-set .ensures))
 
+-- src/lib.rt:30:1
 returns-3 : tie.Need-returns-3
 unfolding check-of
-returns-3 c = rw (c .before .enum-told2 .given .1) (c .check-refused2 .ensures)
+returns-3 c = rw (c .before .before .a2 .given .1) (ap Refused (c .pair-not-allowed .ensures))
 
+-- src/lib.rt:30:1
 returns-4 : tie.Need-returns-4
 unfolding check-of
-returns-4 c = rw (c .before .before .a2 .given .1) (c .check-refused3 .ensures)
-
-returns-5 : tie.Need-returns-5
-unfolding check-of
-returns-5 c = rw (c .before .before .a3 .given .1) (c .check-refused4 .ensures)
+returns-4 c = rw (c .before .before .a3 .given .1) (ap Refused (c .rule-broken .ensures))
 
 pub answer-of-spec : {M : Type 1} → statement M
 answer-of-spec =
     tie.close
     (tie.spec
-    enum-known-a
-    enum-told
-    check-refused-requires
-    enum-told-2
-    check-refused-requires-2
-    enum-known-a-2
-    check-refused-requires-3
-    enum-known-a-3
-    mul-check-refused
-    add-check-refused
-    check-refused-requires-4
+    (λ c. search needs)
+    (λ c. search needs)
+    (λ c κs. search needs)
+    (λ c. search needs)
+    (λ c κs. search needs)
+    (λ c. search needs)
+    rule-broken-requires
     returns
     returns-2
     returns-3
-    returns-4
-    returns-5)
+    returns-4)

@@ -1,116 +1,131 @@
--- Small slices where they have room, else large ones: `check_with` promises the outcome with either.
 use borrow.Author.Needs.{needs}
-use Rattle.two_texts.specs.Measured.{rooms-few, rooms-always}
+use Rattle.tables.specs.Broken.{raster-in}
+use Rattle.tables.specs.Paths.{raster-rest, header-in, raster-long, check-keep-short, check-other, check-not-safe, check-scanned}
 use Rattle.tables.proofs.check.Statement.{statement}
 use Rattle.tables.proofs.check.Tie as tie
+use Rattle.tables.proofs.check.Reads as reads
+use Rattle.tables.proofs.check.Lts as lts
+use Rattle.bitmaps.proofs.bytes_for.Reads as bytes-for-reads
+use Rattle.refusals.proofs.Refusal.keep_too_short.Reads as keep-too-short-reads
+use Rattle.refusals.proofs.Refusal.other_table.Reads as other-table-reads
+use Rattle.refusals.proofs.Refusal.start_not_safe.Reads as start-not-safe-reads
+use Rattle.tables.proofs.answer_of.Reads as answer-of-reads
+use Rattle.tables_header.proofs.header_length.Reads as header-length-reads
+use Rattle.tables_header.proofs.is_table.Reads as is-table-reads
+use Rattle.tables_prepare.proofs.prepare.Reads as prepare-reads
+use Rattle.tables_whole.proofs.check_raster.Reads as check-raster-reads
 
-measure-two-requires : tie.Need-measure-two-requires
-measure-two-requires c κs = search needs
-
-few-moves-requires : tie.Need-few-moves-requires
-few-moves-requires c κs = search needs
-
-few-moves-requires-2 : tie.Need-few-moves-requires-2
-few-moves-requires-2 c κs = search needs
-
-few-states-requires : tie.Need-few-states-requires
-few-states-requires c κs = search needs
-
-few-states-requires-2 : tie.Need-few-states-requires-2
-few-states-requires-2 c κs = search needs
-
-slice-aggregate-check-with : tie.Need-slice-aggregate-check-with
-slice-aggregate-check-with c = search needs
-
-slice-aggregate-check-with-2 : tie.Need-slice-aggregate-check-with-2
-slice-aggregate-check-with-2 c = search needs
-
-slice-aggregate-check-with-3 : tie.Need-slice-aggregate-check-with-3
-slice-aggregate-check-with-3 c = search needs
-
-slice-aggregate-check-with-4 : tie.Need-slice-aggregate-check-with-4
-slice-aggregate-check-with-4 c = search needs
-
-check-with-requires : tie.Need-check-with-requires
-check-with-requires c κs =
-    let slices = c .before .before .before .before .before in
-    let moves = slices .before .before in
-    let tested = moves .before .before in
-    let measures = tested .before .measure-two .ensures in (
-      measures,
-      rooms-few _ _ _ _ _ (measures .few) (tested .if1 .taken) (moves .before .few-moves .ensures)
-          (moves .few-moves2 .ensures) (slices .before .few-states .ensures) (slices .few-states2 .ensures),
-    )
-
-same-length : tie.Need-same-length
-same-length c = search needs
-
+-- src/lib.rt:64:9
+-- src/lib.rt:66:37
+-- src/lib.rt:66:9
 returns : tie.Need-returns
-returns c = search needs
+returns c =
+    let args = c .before .before .before .before .before .before .before .before .before .args in
+    check-keep-short (args .sides) (args .inputs) (args .lm .now) (args .rm .now) (args .lh .now) (args .rh .now) (args .keep .now)
+    (args .table .now) _ (c .before .before .bytes-for .ensures) _ (c .keep-too-short .ensures) (c .before .if1 .taken)
 
-no-moves-requires : tie.Need-no-moves-requires
-no-moves-requires c κs = search needs
+-- src/lib.rt:68:9
+-- src/lib.rt:69:37
+-- src/lib.rt:69:9
+returns-2 : tie.Need-returns-2
+returns-2 c =
+    let args = c .before .before .before .before .before .before .before .before .before .before .before .args in
+    let fitting = c .before .before .is-table in
+    check-other (args .sides) (args .inputs) (args .lm .now) (args .rm .now) (args .lh .now) (args .rh .now) (args .keep .now)
+    (args .table .now) _ (c .before .before .before .before .bytes-for .ensures) (c .before .before .before .if1 .left) _ (fitting .result) (c .other-table .ensures) (fitting .ensures) (c .before .if2 .taken)
 
-no-moves-requires-2 : tie.Need-no-moves-requires-2
-no-moves-requires-2 c κs = search needs
+-- src/lib.rt:71:9
+-- src/lib.rt:72:37
+-- src/lib.rt:72:9
+-- src/lib.rt:72:9
+-- src/lib.rt:72:9
+returns-3 : tie.Need-returns-3
+returns-3 c =
+    let args = c .before .before .before .before .before .before .before .before .before .before .before .before .before .before .before .before .before .before .before .args in
+    let fitting = c .before .before .before .before .before .before .before .before .before .before .is-table in
+    let prepared = c .before .before .before .before .before .before .prepare in
+    check-not-safe (args .sides) (args .inputs) (args .lm .now) (args .rm .now) (args .lh .now) (args .rh .now) (args .keep .now)
+    (args .table .now) _ (c .before .before .before .before .before .before .before .before .before .before .before .before .bytes-for .ensures) (c .before .before .before .before .before .before .before .before .before .before .before .if1 .left) (fitting .result) (fitting .ensures) (c .before .before .before .before .before .before .before .before .before .if2 .left) _ _ (prepared .result)
+    (prepared .ensures) _ (c .start-not-safe .ensures) (c .before .if3 .taken)
 
-no-states-requires : tie.Need-no-states-requires
-no-states-requires c κs = search needs
+-- src/lib.rt:74:9
+-- src/lib.rt:75:44
+sub-check-raster : tie.Need-sub-check-raster
+sub-check-raster c =
+    let args = c .before .before .before .before .before .before .before .before .before .before .before .before .before .before .before .before .before .before .before .args in
+    let fitting = c .before .before .before .before .before .before .before .before .before .before .is-table in
+    header-in (args .sides .«right_states») (args .sides .«left_states») (c .header-length .result) (args .table .now)
+    (c .header-length .ensures) (fitting .result) (fitting .ensures) (c .before .before .before .before .before .before .before .before .before .if2 .left)
 
-no-states-requires-2 : tie.Need-no-states-requires-2
-no-states-requires-2 c κs = search needs
+-- src/lib.rt:75:44
+part-check-raster-start : tie.Need-part-check-raster-start
+part-check-raster-start c =
+    let args = c .before .before .before .before .before .before .before .before .before .before .before .before .before .before .before .before .before .before .before .args in
+    let fitting = c .before .before .before .before .before .before .before .before .before .before .is-table in
+    header-in (args .sides .«right_states») (args .sides .«left_states») (c .header-length .result) (args .table .now)
+    (c .header-length .ensures) (fitting .result) (fitting .ensures) (c .before .before .before .before .before .before .before .before .before .if2 .left)
 
-slice-aggregate-check-with-5 : tie.Need-slice-aggregate-check-with-5
-slice-aggregate-check-with-5 c = search needs
-
-slice-aggregate-check-with-6 : tie.Need-slice-aggregate-check-with-6
-slice-aggregate-check-with-6 c = search needs
-
-slice-aggregate-check-with-7 : tie.Need-slice-aggregate-check-with-7
-slice-aggregate-check-with-7 c = search needs
-
-slice-aggregate-check-with-8 : tie.Need-slice-aggregate-check-with-8
-slice-aggregate-check-with-8 c = search needs
-
-check-with-requires-2 : tie.Need-check-with-requires-2
-check-with-requires-2 c κs =
-    let slices = c .before .before .before .before .before in
-    let moves = slices .before .before in (
-      moves .before .before .before .measure-two .ensures,
-      rooms-always _ _ _ _ _ (moves .before .no-moves .ensures) (moves .no-moves2 .ensures)
-          (slices .before .no-states .ensures) (slices .no-states2 .ensures),
+-- src/lib.rt:75:44
+-- src/lib.rt:75:9
+check-raster-requires : tie.Need-check-raster-requires
+check-raster-requires c κs =
+    let args = c .before .before .before .before .before .before .before .before .before .before .before .before .before .before .before .before .before .before .before .before .before .before .args in
+    let pre = c .before .before .before .before .before .before .before .before .before .before .before .before .before .before .before .before .before .before .before .before .before .before .pre in
+    let fitting = c .before .before .before .before .before .before .before .before .before .before .before .before .before .is-table in (
+      record {
+        left = c .before .before .before .before .before .before .before .before .before .prepare .ensures .bounded;
+        right = pre .0 .right;
+        left-start = pre .0 .left .start;
+        right-start = pre .0 .right-start;
+        safe-room = search needs;
+        true-bits = pre .1;
+      },
+      raster-long (args .sides .«right_states») (args .sides .«left_states») (c .before .before .before .header-length .result) (args .table .now)
+          (c .before .before .before .header-length .ensures) (fitting .result) (fitting .ensures) (c .before .before .before .before .before .before .before .before .before .before .before .before .if2 .left),
     )
 
-same-length-2 : tie.Need-same-length-2
-same-length-2 c = search needs
+-- src/lib.rt:76:5
+answer-of-requires : tie.Need-answer-of-requires
+answer-of-requires c κs =
+    (raster-in _ _ _ _ _ _ _ (c .check-raster .ensures), (c .before .before .before .before .before .before .before .before .before .before .before .before .before .before .before .before .before .before .before .before .before .before .before .pre .0 .left .bounded .few, c .before .before .before .before .before .before .before .before .before .before .before .before .before .before .before .before .before .before .before .before .before .before .before .pre .0 .right .few))
 
-returns-2 : tie.Need-returns-2
-returns-2 c = search needs
+-- src/lib.rt:50:1
+-- src/lib.rt:50:1
+-- src/lib.rt:50:1
+returns-4 : tie.Need-returns-4
+returns-4 c =
+    let args = c .before .before .before .before .before .before .before .before .before .before .before .before .before .before .before .before .before .before .before .before .before .before .before .before .args in
+    let fitting = c .before .before .before .before .before .before .before .before .before .before .before .before .before .before .before .is-table in
+    let prepared = c .before .before .before .before .before .before .before .before .before .before .before .prepare in
+    let header = c .before .before .before .before .before .header-length in
+    let scan = c .before .check-raster in
+    check-scanned (args .sides) (args .inputs) (args .lm .now) (args .rm .now) (args .lh .now) (args .rh .now) (args .keep .now)
+    (args .table .now) _ (c .before .before .before .before .before .before .before .before .before .before .before .before .before .before .before .before .before .bytes-for .ensures) (c .before .before .before .before .before .before .before .before .before .before .before .before .before .before .before .before .if1 .left) (fitting .result) (fitting .ensures) (c .before .before .before .before .before .before .before .before .before .before .before .before .before .before .if2 .left) _ _ (prepared .result)
+    (prepared .ensures) _ (scan .result) _ (c .before .before .before .before .before .before .if3 .left)
+    (raster-rest (args .sides .«right_states») (args .sides .«left_states») (header .result) (args .table .now) (header .ensures))
+    (scan .ensures) (c .answer-of .ensures)
 
 pub check-spec : {M : Type 1} → statement M
 check-spec =
     tie.close
     (tie.spec
-    measure-two-requires
-    few-moves-requires
-    few-moves-requires-2
-    few-states-requires
-    few-states-requires-2
-    slice-aggregate-check-with
-    slice-aggregate-check-with-2
-    slice-aggregate-check-with-3
-    slice-aggregate-check-with-4
-    check-with-requires
-    same-length
+    (λ c κs. search needs)
+    (λ c κs. search needs)
     returns
-    no-moves-requires
-    no-moves-requires-2
-    no-states-requires
-    no-states-requires-2
-    slice-aggregate-check-with-5
-    slice-aggregate-check-with-6
-    slice-aggregate-check-with-7
-    slice-aggregate-check-with-8
-    check-with-requires-2
-    same-length-2
-    returns-2)
+    (λ c κs. search needs)
+    (λ c κs. search needs)
+    returns-2
+    (λ c κs. search needs)
+    (λ c κs. search needs)
+    (λ c. search needs)
+    (λ c. search needs)
+    returns-3
+    (λ c κs. search needs)
+    sub-check-raster
+    part-check-raster-start
+    (λ c. search needs)
+    check-raster-requires
+    answer-of-requires
+    (λ c. search needs)
+    (λ c. search needs)
+    returns-4)

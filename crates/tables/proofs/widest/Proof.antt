@@ -1,124 +1,97 @@
--- Small slices where they have room, else large ones: `widest_with` promises the outcome with either.
 use borrow.Author.Needs.{needs}
-use Rattle.two_texts.specs.Measured.{rooms-few, rooms-always}
+use native.Mathlib.Omega.{arith}
+use Rattle.tables.specs.Paths.{widest-keep-short, widest-table-short, widest-not-safe, widest-made}
 use Rattle.tables.proofs.widest.Statement.{statement}
 use Rattle.tables.proofs.widest.Tie as tie
+use Rattle.tables.proofs.widest.Reads as reads
+use Rattle.tables.proofs.widest.Lts as lts
+use Rattle.bitmaps.proofs.bytes_for.Reads as bytes-for-reads
+use Rattle.refusals.proofs.Refusal.keep_too_short.Reads as keep-too-short-reads
+use Rattle.refusals.proofs.Refusal.start_not_safe.Reads as start-not-safe-reads
+use Rattle.refusals.proofs.Refusal.table_too_short.Reads as table-too-short-reads
+use Rattle.tables_header.proofs.table_length.Reads as table-length-reads
+use Rattle.tables_prepare.proofs.prepare.Reads as prepare-reads
+use Rattle.tables_whole.proofs.make_widest.Reads as make-widest-reads
 
-measure-two-requires : tie.Need-measure-two-requires
-measure-two-requires c κs = search needs
-
-few-moves-requires : tie.Need-few-moves-requires
-few-moves-requires c κs = search needs
-
-few-moves-requires-2 : tie.Need-few-moves-requires-2
-few-moves-requires-2 c κs = search needs
-
-few-states-requires : tie.Need-few-states-requires
-few-states-requires c κs = search needs
-
-few-states-requires-2 : tie.Need-few-states-requires-2
-few-states-requires-2 c κs = search needs
-
-slice-aggregate-widest-with : tie.Need-slice-aggregate-widest-with
-slice-aggregate-widest-with c = search needs
-
-slice-aggregate-widest-with-2 : tie.Need-slice-aggregate-widest-with-2
-slice-aggregate-widest-with-2 c = search needs
-
-slice-aggregate-widest-with-3 : tie.Need-slice-aggregate-widest-with-3
-slice-aggregate-widest-with-3 c = search needs
-
-slice-aggregate-widest-with-4 : tie.Need-slice-aggregate-widest-with-4
-slice-aggregate-widest-with-4 c = search needs
-
-widest-with-requires : tie.Need-widest-with-requires
-widest-with-requires c κs =
-    let slices = c .before .before .before .before .before .before in
-    let moves = slices .before .before in
-    let tested = moves .before .before in
-    let measures = tested .before .measure-two .ensures in (
-      measures,
-      rooms-few _ _ _ _ _ (measures .few) (tested .if1 .taken) (moves .before .few-moves .ensures)
-          (moves .few-moves2 .ensures) (slices .before .few-states .ensures) (slices .few-states2 .ensures),
-    )
-
-same-length : tie.Need-same-length
-same-length c = search needs
-
-same-length-2 : tie.Need-same-length-2
-same-length-2 c = search needs
-
+-- src/lib.rt:98:9
+-- src/lib.rt:100:38
+-- src/lib.rt:100:9
 returns : tie.Need-returns
-returns c = search needs
+returns c =
+    let args = c .before .before .before .before .before .before .before .before .before .args in
+    widest-keep-short (args .sides) (args .inputs) (args .lm .now) (args .rm .now) (args .lh .now) (args .rh .now) (args .keep .now)
+    (args .table .now) _ (c .before .before .bytes-for .ensures) _ (c .keep-too-short .ensures) (c .before .if1 .taken)
 
-no-moves-requires : tie.Need-no-moves-requires
-no-moves-requires c κs = search needs
+-- src/lib.rt:102:9
+-- src/lib.rt:104:38
+-- src/lib.rt:104:9
+returns-2 : tie.Need-returns-2
+returns-2 c =
+    let args = c .before .before .before .before .before .before .before .before .before .before .before .args in
+    let sized = c .before .before .table-length in
+    widest-table-short (args .sides) (args .inputs) (args .lm .now) (args .rm .now) (args .lh .now) (args .rh .now) (args .keep .now)
+    (args .table .now) _ (c .before .before .before .before .bytes-for .ensures) (c .before .before .before .if1 .left) (sized .result) (sized .ensures) _ (c .table-too-short .ensures) (c .before .if2 .taken)
 
-no-moves-requires-2 : tie.Need-no-moves-requires-2
-no-moves-requires-2 c κs = search needs
+-- src/lib.rt:106:9
+-- src/lib.rt:107:38
+-- src/lib.rt:107:9
+-- src/lib.rt:107:9
+-- src/lib.rt:107:9
+returns-3 : tie.Need-returns-3
+returns-3 c =
+    let args = c .before .before .before .before .before .before .before .before .before .before .before .before .before .before .before .before .before .before .before .args in
+    let sized = c .before .before .before .before .before .before .before .before .before .before .table-length in
+    let prepared = c .before .before .before .before .before .before .prepare in
+    widest-not-safe (args .sides) (args .inputs) (args .lm .now) (args .rm .now) (args .lh .now) (args .rh .now) (args .keep .now)
+    (args .table .now) _ (c .before .before .before .before .before .before .before .before .before .before .before .before .bytes-for .ensures) (c .before .before .before .before .before .before .before .before .before .before .before .if1 .left) (sized .result) (sized .ensures) (c .before .before .before .before .before .before .before .before .before .if2 .left) _ _ (prepared .result)
+    (prepared .ensures) _ (c .start-not-safe .ensures) (c .before .if3 .taken)
 
-no-states-requires : tie.Need-no-states-requires
-no-states-requires c κs = search needs
-
-no-states-requires-2 : tie.Need-no-states-requires-2
-no-states-requires-2 c κs = search needs
-
-slice-aggregate-widest-with-5 : tie.Need-slice-aggregate-widest-with-5
-slice-aggregate-widest-with-5 c = search needs
-
-slice-aggregate-widest-with-6 : tie.Need-slice-aggregate-widest-with-6
-slice-aggregate-widest-with-6 c = search needs
-
-slice-aggregate-widest-with-7 : tie.Need-slice-aggregate-widest-with-7
-slice-aggregate-widest-with-7 c = search needs
-
-slice-aggregate-widest-with-8 : tie.Need-slice-aggregate-widest-with-8
-slice-aggregate-widest-with-8 c = search needs
-
-widest-with-requires-2 : tie.Need-widest-with-requires-2
-widest-with-requires-2 c κs =
-    let slices = c .before .before .before .before .before .before in
-    let moves = slices .before .before in (
-      moves .before .before .before .measure-two .ensures,
-      rooms-always _ _ _ _ _ (moves .before .no-moves .ensures) (moves .no-moves2 .ensures)
-          (slices .before .no-states .ensures) (slices .no-states2 .ensures),
+-- src/lib.rt:109:9
+make-widest-requires : tie.Need-make-widest-requires
+make-widest-requires c κs =
+    let pre = c .before .before .before .before .before .before .before .before .before .before .before .before .before .before .before .before .before .before .before .before .before .pre in (
+      record {
+        left = c .before .before .before .before .before .before .before .before .prepare .ensures .bounded;
+        right = pre .0 .right;
+        left-start = pre .0 .left .start;
+        right-start = pre .0 .right-start;
+        safe-room = search needs;
+        true-bits = pre .1;
+      },
+      omega (arith, c .before .before .before .before .before .before .before .before .before .before .before .before .table-length .ensures, c .before .before .before .before .before .before .before .before .before .before .before .if2 .left),
     )
 
-same-length-3 : tie.Need-same-length-3
-same-length-3 c = search needs
-
-same-length-4 : tie.Need-same-length-4
-same-length-4 c = search needs
-
-returns-2 : tie.Need-returns-2
-returns-2 c = search needs
+-- src/lib.rt:80:1
+-- src/lib.rt:80:1
+-- src/lib.rt:80:1
+-- src/lib.rt:80:1
+returns-4 : tie.Need-returns-4
+returns-4 c =
+    let args = c .before .before .before .before .before .before .before .before .before .before .before .before .before .before .before .before .before .before .before .before .before .before .before .before .args in
+    let sized = c .before .before .before .before .before .before .before .before .before .before .before .before .before .before .before .table-length in
+    let prepared = c .before .before .before .before .before .before .before .before .before .before .before .prepare in
+    let widest = c .before .before .make-widest in
+    widest-made (args .sides) (args .inputs) (args .lm .now) (args .rm .now) (args .lh .now) (args .rh .now) (args .keep .now)
+    (args .table .now) _ (c .before .before .before .before .before .before .before .before .before .before .before .before .before .before .before .before .before .bytes-for .ensures) (c .before .before .before .before .before .before .before .before .before .before .before .before .before .before .before .before .if1 .left) (sized .result) (sized .ensures) (c .before .before .before .before .before .before .before .before .before .before .before .before .before .before .if2 .left) _ _ (prepared .result)
+    (prepared .ensures) _ (widest .result .count) (widest .result .start) (c .before .before .before .before .before .before .if3 .left) (widest .ensures)
 
 pub widest-spec : {M : Type 1} → statement M
 widest-spec =
     tie.close
     (tie.spec
-    measure-two-requires
-    few-moves-requires
-    few-moves-requires-2
-    few-states-requires
-    few-states-requires-2
-    slice-aggregate-widest-with
-    slice-aggregate-widest-with-2
-    slice-aggregate-widest-with-3
-    slice-aggregate-widest-with-4
-    widest-with-requires
-    same-length
-    same-length-2
+    (λ c κs. search needs)
+    (λ c κs. search needs)
     returns
-    no-moves-requires
-    no-moves-requires-2
-    no-states-requires
-    no-states-requires-2
-    slice-aggregate-widest-with-5
-    slice-aggregate-widest-with-6
-    slice-aggregate-widest-with-7
-    slice-aggregate-widest-with-8
-    widest-with-requires-2
-    same-length-3
-    same-length-4
-    returns-2)
+    (λ c κs. search needs)
+    (λ c κs. search needs)
+    returns-2
+    (λ c κs. search needs)
+    (λ c κs. search needs)
+    (λ c. search needs)
+    (λ c. search needs)
+    returns-3
+    make-widest-requires
+    (λ c. search needs)
+    (λ c. search needs)
+    (λ c. search needs)
+    returns-4)

@@ -4,11 +4,12 @@ use native.Mathlib.Nat.{sub-zero}
 use native.Mathlib.Omega.{arith}
 use mathlib.Core.Path.{_≡_, sym, _∙_, ap}
 use mathlib.Core.Bool.{not}
-use Prim.Native.Nat.{_+_, _-_, _*_, _≤_}
+use Prim.Native.Nat.{_+_, _-_, _*_, _≤_, _<_}
 use Rattle.systems.specs.Tests.{least}
-use Rattle.clocks_bits.specs.Moves.{target, reach, base-few}
+use Rattle.limits.specs.Limits.{move-limit}
+use Rattle.move_tables.specs.MoveLaws.{target, reach, base-few}
 use Rattle.tables_check.specs.Fault.{fails-at, first-bad}
-use Rattle.tables_check.specs.Loops.{least-yes, least-no, least-end}
+use Rattle.tables_check.proofs.Laws.{least-yes, least-no, least-end}
 use Rattle.tables_check.proofs.first_bad.Statement.{statement}
 use Rattle.tables_check.proofs.first_bad.Tie as tie
 
@@ -20,36 +21,34 @@ Inv-loop raster lm rm n w steps s t a b c₀ c =
 abbrev μ-loop : tie.MeasureT-loop
 μ-loop raster lm rm n w steps s t a b c₀ c = steps - c
 
+-- the first entries of both states are far below the largest number
+abbrev Start : Type 0
+Start = tie.Start Inv-loop μ-loop
+
+left-few : (z : Start) → z .args .s * z .args .steps < move-limit
+left-few z = base-few (z .pre .0) (z .args .s) (z .pre .1 .1 .0)
+
+right-few : (z : Start) → z .args .t * z .args .steps < move-limit
+right-few z = base-few (z .pre .1 .0) (z .args .t) (z .pre .1 .1 .1 .0)
+
 mul-a : tie.Need-mul-a Inv-loop μ-loop
-mul-a c =
-    let pre = c .before .before .before .pre in
-    let args = c .before .before .before .args in
-    let left-base = base-few (pre .0) (args .s) (pre .1 .1 .0) in
-    omega (arith, left-base)
+mul-a c = omega (arith, left-few (c .before .before .before))
 
 mul-b : tie.Need-mul-b Inv-loop μ-loop
-mul-b c =
-    let pre = c .before .before .before .pre in
-    let args = c .before .before .before .args in
-    let right-base = base-few (pre .1 .0) (args .t) (pre .1 .1 .1 .0) in
-    omega (arith, right-base)
+mul-b c = omega (arith, right-few (c .before .before .before))
 
 loop-holds : tie.Need-loop-holds Inv-loop μ-loop
 loop-holds c = (omega arith, rw sub-zero)
 
 add-u : tie.Need-add-u Inv-loop μ-loop
 add-u c =
-    let pre = c .before .before .before .before .before .pre in
-    let args = c .before .before .before .before .before .args in
-    let left-base = base-few (pre .0) (args .s) (pre .1 .1 .0) in
-    omega (arith, left-base, pre .0 .short)
+    let z = c .before .before .before .before .before in
+    omega (arith, left-few z, z .pre .0 .short)
 
 mul-u : tie.Need-mul-u Inv-loop μ-loop
 mul-u c =
-    let pre = c .before .before .before .before .before .pre in
-    let args = c .before .before .before .before .before .args in
-    let left-base = base-few (pre .0) (args .s) (pre .1 .1 .0) in
-    omega (arith, left-base, pre .0 .short)
+    let z = c .before .before .before .before .before in
+    omega (arith, left-few z, z .pre .0 .short)
 
 shared-slice-read-u : tie.Need-shared-slice-read-u Inv-loop μ-loop
 shared-slice-read-u c =
@@ -67,17 +66,13 @@ cast-u c =
 
 add-v : tie.Need-add-v Inv-loop μ-loop
 add-v c =
-    let pre = c .before .before .before .before .before .before .pre in
-    let args = c .before .before .before .before .before .before .args in
-    let right-base = base-few (pre .1 .0) (args .t) (pre .1 .1 .1 .0) in
-    omega (arith, right-base, pre .0 .short)
+    let z = c .before .before .before .before .before .before in
+    omega (arith, right-few z, z .pre .0 .short)
 
 mul-v : tie.Need-mul-v Inv-loop μ-loop
 mul-v c =
-    let pre = c .before .before .before .before .before .before .pre in
-    let args = c .before .before .before .before .before .before .args in
-    let right-base = base-few (pre .1 .0) (args .t) (pre .1 .1 .1 .0) in
-    omega (arith, right-base, pre .0 .short)
+    let z = c .before .before .before .before .before .before in
+    omega (arith, right-few z, z .pre .0 .short)
 
 shared-slice-read-v : tie.Need-shared-slice-read-v Inv-loop μ-loop
 shared-slice-read-v c =
@@ -121,12 +116,6 @@ returns c =
     sym (sym (loop .inv .1) ∙ least-yes fails (loop .c) (args .steps) (loop-test .taken)
     (ap not (sym (step-ok-call .ensures)) ∙ c .if1 .taken))
 
-add-c : tie.Need-add-c Inv-loop μ-loop
-add-c c = search needs
-
-loop-less : tie.Need-loop-less Inv-loop μ-loop
-loop-less c = search needs
-
 loop-again : tie.Need-loop-again Inv-loop μ-loop
 unfolding fails-at
 loop-again c =
@@ -169,7 +158,7 @@ first-bad-spec =
     cast-v
     step-ok-requires
     returns
-    add-c
-    loop-less
+    (λ c. search needs)
+    (λ c. search needs)
     loop-again
     returns-2)

@@ -1,19 +1,10 @@
 -- byte_ones shifts the other bits off and counts the ones left.
 use native.Mathlib.Omega.{arith}
 use Prim.Native.Nat.{suc, _<_}
-use Rattle.tables_count.specs.PairsLaws.{high-ones-is, high-le, shifted-small}
+use Rattle.tables_count.proofs.Laws.{high-ones-is, high-le, shifted-small}
 use borrow.Author.Needs.{needs}
 use Rattle.tables_count.proofs.byte_ones.Statement.{statement}
 use Rattle.tables_count.proofs.byte_ones.Tie as tie
-
-sub-k : tie.Need-sub-k
-sub-k c = search needs
-
-cast-x : tie.Need-cast-x
-cast-x c = search needs
-
-shr-x : tie.Need-shr-x
-shr-x c = search needs
 
 cast-result : tie.Need-cast-result
 cast-result c = omega (
@@ -34,4 +25,5 @@ returns : tie.Need-returns
 returns c = high-ones-is (c .args .b) (c .args .m) (let q : c .args .b < 256 = omega (arith, c .fits .b) in q) (c .pre)
 
 pub byte-ones-spec : {M : Type 1} → statement M
-byte-ones-spec = tie.close (tie.spec sub-k cast-x shr-x cast-result cast-result-2 returns)
+byte-ones-spec = tie.close (tie.spec (λ c. search needs) (λ c. search needs)
+    (λ c. search needs) cast-result cast-result-2 returns)

@@ -4,9 +4,9 @@ use native.Mathlib.Omega.{arith}
 use mathlib.Core.Path.{_≡_, _∙_, ap, refl}
 use Prim.Native.Nat.{ℕ, suc, _+_, _-_, _*_, _/_, _%_, _≤_}
 use lib.ListN.{getD}
-use Rattle.clocks_bits.specs.Bits.{bit-at}
+use Rattle.bitmaps.specs.Bits.{bit-at}
 use Rattle.tables_count.specs.Pairs.{passing, high-ones}
-use Rattle.tables_count.specs.PairsLaws.{passing-le, passing-byte, high-le}
+use Rattle.tables_count.proofs.Laws.{passing-le, passing-byte, high-le}
 use Rattle.tables_count.proofs.row_ones.Statement.{statement}
 use Rattle.tables_count.proofs.row_ones.Tie as tie
 
@@ -20,12 +20,6 @@ loop-holds : tie.Need-loop-holds Inv-loop μ-loop
 unfolding passing
 loop-holds c = (omega arith, refl)
 
-shared-slice-read-byte-ones : tie.Need-shared-slice-read-byte-ones Inv-loop μ-loop
-shared-slice-read-byte-ones c = search needs
-
-byte-ones-requires : tie.Need-byte-ones-requires Inv-loop μ-loop
-byte-ones-requires c κs = search needs
-
 add-r : tie.Need-add-r Inv-loop μ-loop
 add-r c =
     let args = c .before .before .before .before .before .args in
@@ -38,12 +32,6 @@ add-r c =
       high-le
           (getD (args .row .now) (loop .i) 0) 8,
     )
-
-add-i : tie.Need-add-i Inv-loop μ-loop
-add-i c = search needs
-
-loop-less : tie.Need-loop-less Inv-loop μ-loop
-loop-less c = search needs
 
 loop-again : tie.Need-loop-again Inv-loop μ-loop
 loop-again c =
@@ -66,12 +54,6 @@ returns c =
     let args = c .before .before .before .before .args in
     let loop = c .before .before .loop in
     let e : 8 * loop .i ≡ args .w = omega arith in loop .inv .1 ∙ ap (passing (bit-at (args .row .now))) e
-
-shared-slice-read-byte-ones-2 : tie.Need-shared-slice-read-byte-ones-2 Inv-loop μ-loop
-shared-slice-read-byte-ones-2 c = search needs
-
-sub-byte-ones : tie.Need-sub-byte-ones Inv-loop μ-loop
-sub-byte-ones c = search needs
 
 byte-ones-requires-2 : tie.Need-byte-ones-requires-2 Inv-loop μ-loop
 byte-ones-requires-2 c κs = omega arith
@@ -113,15 +95,15 @@ row-ones-spec =
     Inv-loop
     μ-loop
     loop-holds
-    shared-slice-read-byte-ones
-    byte-ones-requires
+    (λ c. search needs)
+    (λ c κs. search needs)
     add-r
-    add-i
-    loop-less
+    (λ c. search needs)
+    (λ c. search needs)
     loop-again
     returns
-    shared-slice-read-byte-ones-2
-    sub-byte-ones
+    (λ c. search needs)
+    (λ c. search needs)
     byte-ones-requires-2
     add-result
     returns-2)

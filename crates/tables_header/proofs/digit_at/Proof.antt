@@ -5,7 +5,7 @@ use mathlib.Core.Path.{_≡_, sym, _∙_, refl}
 use Prim.Native.Nat.{_+_, _≤_, _<_}
 use lib.ListN.{length, getD}
 use Rattle.tables_header.specs.Header.{digit, decimal}
-use Rattle.tables_header.specs.Laws.{decimal-few, decimal-length, decimal-long, decimal-last, decimal-front}
+use Rattle.tables_header.proofs.Laws.{decimal-few, decimal-length, decimal-long, decimal-last, decimal-front}
 use Rattle.tables_header.proofs.digit_at.Statement.{statement}
 use Rattle.tables_header.proofs.digit_at.Tie as tie
 
@@ -15,9 +15,6 @@ Inv-loop n i rest₀ k₀ rest k = (k ≡ length (decimal rest))
 
 abbrev μ-loop : tie.MeasureT-loop
 μ-loop n i rest₀ k₀ rest k = k
-
-digit-count-requires : tie.Need-digit-count-requires Inv-loop μ-loop
-digit-count-requires c κs = search needs
 
 loop-holds : tie.Need-loop-holds Inv-loop μ-loop
 loop-holds c =
@@ -29,15 +26,6 @@ loop-holds c =
         (omega (arith, decimal-few (args .n)), refl),
       ),
     )
-
-add-loop : tie.Need-add-loop Inv-loop μ-loop
-add-loop c = search needs
-
-sub-k : tie.Need-sub-k Inv-loop μ-loop
-sub-k c = search needs
-
-loop-less : tie.Need-loop-less Inv-loop μ-loop
-loop-less c = search needs
 
 loop-again : tie.Need-loop-again Inv-loop μ-loop
 loop-again c =
@@ -56,12 +44,6 @@ loop-again c =
       ),
     )
 
-cast-result : tie.Need-cast-result Inv-loop μ-loop
-cast-result c = search needs
-
-add-result : tie.Need-add-result Inv-loop μ-loop
-add-result c = search needs
-
 returns : tie.Need-returns Inv-loop μ-loop
 unfolding digit
 returns c =
@@ -75,12 +57,12 @@ digit-at-spec =
     (tie.spec
     Inv-loop
     μ-loop
-    digit-count-requires
+    (λ c κs. search needs)
     loop-holds
-    add-loop
-    sub-k
-    loop-less
+    (λ c. search needs)
+    (λ c. search needs)
+    (λ c. search needs)
     loop-again
-    cast-result
-    add-result
+    (λ c. search needs)
+    (λ c. search needs)
     returns)

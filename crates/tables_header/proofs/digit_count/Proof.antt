@@ -5,7 +5,7 @@ use mathlib.Core.Path.{_≡_}
 use Prim.Native.Nat.{_+_, _≤_}
 use lib.ListN.{length}
 use Rattle.tables_header.specs.Header.{decimal}
-use Rattle.tables_header.specs.Laws.{decimal-few, decimal-length, length-one}
+use Rattle.tables_header.proofs.Laws.{decimal-few, decimal-length, length-one}
 use Rattle.tables_header.proofs.digit_count.Statement.{statement}
 use Rattle.tables_header.proofs.digit_count.Tie as tie
 
@@ -23,9 +23,6 @@ add-k c =
     let args = c .before .before .args in
     omega (arith, decimal-few (args .n))
 
-loop-less : tie.Need-loop-less Inv-loop μ-loop
-loop-less c = search needs
-
 loop-again : tie.Need-loop-again Inv-loop μ-loop
 loop-again c =
     let loop = c .before .loop in
@@ -38,4 +35,4 @@ returns c =
 
 pub digit-count-spec : {M : Type 1} → statement M
 digit-count-spec =
-    tie.close (tie.spec Inv-loop μ-loop loop-holds add-k loop-less loop-again returns)
+    tie.close (tie.spec Inv-loop μ-loop loop-holds add-k (λ c. search needs) loop-again returns)

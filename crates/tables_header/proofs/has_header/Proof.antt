@@ -5,7 +5,7 @@ use mathlib.Core.Path.{_≡_, sym, _∙_, refl}
 use Prim.Native.Nat.{_-_, _≤_}
 use lib.ListN.{drop}
 use Rattle.tables_header.specs.Header.{header, header-bytes, begins}
-use Rattle.tables_header.specs.Laws.{begins-here, begins-not, begins-all, begins-short}
+use Rattle.tables_header.proofs.Laws.{begins-here, begins-not, begins-all, begins-short}
 use Rattle.tables_header.proofs.has_header.Statement.{statement}
 use Rattle.tables_header.proofs.has_header.Tie as tie
 
@@ -14,9 +14,6 @@ Inv-loop table w h size i₀ i = (i ≤ size) × (begins (header w h) table ≡ 
 
 abbrev μ-loop : tie.MeasureT-loop
 μ-loop table w h size i₀ i = size - i
-
-header-length-requires : tie.Need-header-length-requires Inv-loop μ-loop
-header-length-requires c κs = search needs
 
 returns : tie.Need-returns Inv-loop μ-loop
 unfolding header-bytes
@@ -27,12 +24,6 @@ returns c =
 loop-holds : tie.Need-loop-holds Inv-loop μ-loop
 loop-holds c = (omega arith, refl)
 
-shared-slice-read-given : tie.Need-shared-slice-read-given Inv-loop μ-loop
-shared-slice-read-given c = search needs
-
-header-byte-requires : tie.Need-header-byte-requires Inv-loop μ-loop
-header-byte-requires c κs = search needs
-
 returns-2 : tie.Need-returns-2 Inv-loop μ-loop
 unfolding header-bytes
 returns-2 c =
@@ -41,12 +32,6 @@ returns-2 c =
     let header-byte-call = c .before .header-byte in
     sym (loop .inv .1 ∙ begins-not (header (args .w) (args .h)) (args .table .now) (loop .i) (omega arith)
     (omega arith) (λ e. c .if2 .taken (e ∙ sym (header-byte-call .ensures))))
-
-add-i : tie.Need-add-i Inv-loop μ-loop
-add-i c = search needs
-
-loop-less : tie.Need-loop-less Inv-loop μ-loop
-loop-less c = search needs
 
 loop-again : tie.Need-loop-again Inv-loop μ-loop
 unfolding header-bytes
@@ -72,13 +57,13 @@ has-header-spec =
     (tie.spec
     Inv-loop
     μ-loop
-    header-length-requires
+    (λ c κs. search needs)
     returns
     loop-holds
-    shared-slice-read-given
-    header-byte-requires
+    (λ c. search needs)
+    (λ c κs. search needs)
     returns-2
-    add-i
-    loop-less
+    (λ c. search needs)
+    (λ c. search needs)
     loop-again
     returns-3)

@@ -6,17 +6,11 @@ use Rattle.tables_header.specs.Header.{fits}
 use Rattle.tables_header.proofs.is_table.Statement.{statement}
 use Rattle.tables_header.proofs.is_table.Tie as tie
 
-has-header-requires : tie.Need-has-header-requires
-has-header-requires c κs = search needs
-
 returns : tie.Need-returns
 unfolding fits
 returns c =
     let has-header-call = c .before .has-header in
     rw (sym (has-header-call .ensures) ∙ not-true (has-header-call .result) (c .if1 .taken))
-
-table-length-requires : tie.Need-table-length-requires
-table-length-requires c κs = search needs
 
 returns-2 : tie.Need-returns-2
 unfolding fits
@@ -26,4 +20,4 @@ returns-2 c =
     rw (sym (has-header-call .ensures) ∙ not-false (has-header-call .result) (if1 .left), c .table-length .ensures)
 
 pub is-table-spec : {M : Type 1} → statement M
-is-table-spec = tie.close (tie.spec has-header-requires returns table-length-requires returns-2)
+is-table-spec = tie.close (tie.spec (λ c κs. search needs) returns (λ c κs. search needs) returns-2)

@@ -4,9 +4,10 @@ use native.Mathlib.Omega.{arith}
 use mathlib.Core.Path.{_≡_, sym, _∙_, refl}
 use Prim.Native.Nat.{ℕ, _-_, _≤_}
 use lib.ListN.{length, getD, length-set}
-use Rattle.clocks_bits.specs.Bits.{written, written-none, written-more}
+use Rattle.bitmaps.specs.Bits.{written}
+use Rattle.bitmaps.specs.BitLaws.{written-none, written-more}
 use Rattle.tables_header.specs.Header.{header, header-bytes}
-use Rattle.tables_header.specs.Laws.{written-list}
+use Rattle.tables_header.proofs.Laws.{written-list}
 use Rattle.tables_header.proofs.write_header.Statement.{statement}
 use Rattle.tables_header.proofs.write_header.Tie as tie
 
@@ -17,23 +18,8 @@ Inv-loop table₀ w h size i₀ table i =
 abbrev μ-loop : tie.MeasureT-loop
 μ-loop table₀ w h size i₀ table i = size - i
 
-header-length-requires : tie.Need-header-length-requires Inv-loop μ-loop
-header-length-requires c κs = search needs
-
 loop-holds : tie.Need-loop-holds Inv-loop μ-loop
 loop-holds c = (omega arith, (refl, sym (written-none _ _)))
-
-header-byte-requires : tie.Need-header-byte-requires Inv-loop μ-loop
-header-byte-requires c κs = search needs
-
-slice-write-table : tie.Need-slice-write-table Inv-loop μ-loop
-slice-write-table c = search needs
-
-add-i : tie.Need-add-i Inv-loop μ-loop
-add-i c = search needs
-
-loop-less : tie.Need-loop-less Inv-loop μ-loop
-loop-less c = search needs
 
 loop-again : tie.Need-loop-again Inv-loop μ-loop
 loop-again c =
@@ -49,9 +35,6 @@ loop-again c =
       ),
     )
 
-same-length : tie.Need-same-length Inv-loop μ-loop
-same-length c = search needs
-
 returns : tie.Need-returns Inv-loop μ-loop
 unfolding header-bytes
 returns c =
@@ -66,12 +49,12 @@ write-header-spec =
     (tie.spec
     Inv-loop
     μ-loop
-    header-length-requires
+    (λ c κs. search needs)
     loop-holds
-    header-byte-requires
-    slice-write-table
-    add-i
-    loop-less
+    (λ c κs. search needs)
+    (λ c. search needs)
+    (λ c. search needs)
+    (λ c. search needs)
     loop-again
-    same-length
+    (λ c. search needs)
     returns)

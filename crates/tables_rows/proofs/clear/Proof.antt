@@ -2,26 +2,21 @@
 use borrow.Author.Needs.{needs}
 use native.Mathlib.Omega.{arith}
 use mathlib.Core.Path.{_∙_}
-use Rattle.clocks_bits.specs.Packed.{bytes}
-use Rattle.tables_rows.specs.RasterLaws.{row-end, place-bit, place-without}
+use Rattle.bitmaps.specs.Packed.{bytes-for}
+use Rattle.tables_rows.specs.RasterLaws.{row-end}
+use Rattle.tables_rows.proofs.Laws.{place-bit, place-without}
 use Rattle.tables_rows.proofs.clear.Statement.{statement}
 use Rattle.tables_rows.proofs.clear.Tie as tie
-
-place-requires : tie.Need-place-requires
-place-requires c κs = search needs
 
 clear-requires : tie.Need-clear-requires
 clear-requires c κs =
     let args = c .before .before .before .args in
     let pre = c .before .before .before .pre in
     let place = c .before .place in (
-      omega (arith, place .ensures, row-end (args .n) (bytes (args .w)) (args .s) (pre .1 .1 .0)),
+      omega (arith, place .ensures, row-end (args .n) (bytes-for (args .w)) (args .s) (pre .1 .1 .0)),
       place-bit (args .w) (args .raster .now) (args .s) (args .t) (place .result) (place .ensures) (pre .1 .1 .1 .0)
           ∙ pre .1 .1 .1 .1 .1,
     )
-
-same-length : tie.Need-same-length
-same-length c = search needs
 
 returns : tie.Need-returns
 returns c =
@@ -31,4 +26,4 @@ returns c =
     ∙ place-without (args .w) (args .raster .now) (args .s) (args .t) (place .result) (place .ensures)
 
 pub clear-spec : {M : Type 1} → statement M
-clear-spec = tie.close (tie.spec place-requires clear-requires same-length returns)
+clear-spec = tie.close (tie.spec (λ c κs. search needs) clear-requires (λ c. search needs) returns)

@@ -1,14 +1,16 @@
 -- check_raster tests the start pair, then hands on what the scan found.
 use borrow.Author.Needs.{needs}
 use borrow.Author.Tests.{not-true, not-false}
-use mathlib.Core.Path.{sym, _∙_, ap}
-use Rattle.tables_whole.specs.Answer.{answer-of, raster-answer}
+use mathlib.Core.Path.{_≡_, sym, _∙_, ap}
+use Prim.Native.Nat.{ℕ}
+use Rattle.tables_rows.specs.Raster.{set-at}
+use Rattle.tables_count.specs.Pairs.{pairs-set}
+use Rattle.tables_check.specs.declared.Found.{Found}
+use Rattle.tables_whole.specs.declared.TableAnswer.{TableAnswer}
 use Rattle.tables_whole.specs.declared.TableAnswer.the-variants.{Accepted}
+use Rattle.tables_whole.specs.Answer.{answer-of, raster-answer}
 use Rattle.tables_whole.proofs.check_raster.Statement.{statement}
 use Rattle.tables_whole.proofs.check_raster.Tie as tie
-
-is-set-requires : tie.Need-is-set-requires
-is-set-requires c κs = search needs
 
 returns : tie.Need-returns
 unfolding raster-answer
@@ -16,62 +18,54 @@ returns c =
     let is-set-call = c .before .is-set in
     rw (sym (is-set-call .ensures) ∙ not-true (is-set-call .result) (c .if1 .taken))
 
-scan-requires : tie.Need-scan-requires
-scan-requires c κs = search needs
+abbrev answer : tie.Start → TableAnswer
+answer z = raster-answer (z .args .keep .now) (z .args .holds .now) (z .args .lm .now) (z .args .rm .now)
+    (z .args .sides)
+    (z .args .raster .now)
 
-enum-told : tie.Need-enum-told
-enum-told c = search needs
+abbrev start-of : tie.After-scan → tie.Start
+start-of c = c .before .before .before .before .before .before .before .before
 
-pairs-requires : tie.Need-pairs-requires
-pairs-requires c κs = search needs
+abbrev count : tie.After-scan → ℕ
+count c =
+    let args = start-of c .args in
+    let w = args .sides .«right_states» in
+    pairs-set (set-at w (args .raster .now)) w (args .sides .«left_states»)
 
-enum-known-found : tie.Need-enum-known-found
-enum-known-found c = search needs
-
-enum-known-found-2 : tie.Need-enum-known-found-2
-enum-known-found-2 c = search needs
+-- behind the scan: what it found, with the number of pairs set
+found : (c : tie.After-scan) (f : Found) → c .scan .result ≡ f → answer (start-of c) ≡ answer-of f (count c)
+unfolding raster-answer
+found c f e =
+    let is-set-call = c .before .before .is-set in
+    rw (
+      sym (is-set-call .ensures) ∙ not-false (is-set-call .result) (c .before .if1 .left),
+      sym (c .scan .ensures) ∙ e,
+    )
 
 returns-2 : tie.Need-returns-2
-unfolding raster-answer answer-of
-returns-2 c =
-    let scan-call = c .before .before .before .scan in
-    let enum-told = c .before .enum-told in
-    let is-set-call = c .before .before .before .before .before .is-set in
-    let if1 = c .before .before .before .before .if1 in
-    let start = sym (is-set-call .ensures) ∙ not-false (is-set-call .result) (if1 .left) in
-    rw (start, sym (scan-call .ensures) ∙ enum-told .given .1) (ap Accepted (c .pairs .ensures))
+unfolding answer-of
+returns-2 c = ap Accepted (c .pairs .ensures) ∙ sym (found (c .before .before .before) _
+    (c .before .enum-told .given .1))
 
 returns-3 : tie.Need-returns-3
-unfolding raster-answer answer-of
-returns-3 c =
-    let scan-call = c .before .before .before .scan in
-    let found-call = c .before .found in
-    let is-set-call = c .before .before .before .before .before .is-set in
-    let if1 = c .before .before .before .before .if1 in
-    let start = sym (is-set-call .ensures) ∙ not-false (is-set-call .result) (if1 .left) in
-    rw (start, sym (scan-call .ensures) ∙ found-call .given .1)
+unfolding answer-of
+returns-3 c = sym (found (c .before .before .before) _ (c .before .found .given .1))
 
 returns-4 : tie.Need-returns-4
-unfolding raster-answer answer-of
-returns-4 c =
-    let scan-call = c .before .before .before .scan in
-    let found2-call = c .before .found2 in
-    let is-set-call = c .before .before .before .before .before .is-set in
-    let if1 = c .before .before .before .before .if1 in
-    let start = sym (is-set-call .ensures) ∙ not-false (is-set-call .result) (if1 .left) in
-    rw (start, sym (scan-call .ensures) ∙ found2-call .given .1)
+unfolding answer-of
+returns-4 c = sym (found (c .before .before .before) _ (c .before .found2 .given .1))
 
 pub check-raster-spec : {M : Type 1} → statement M
 check-raster-spec =
     tie.close
     (tie.spec
-    is-set-requires
+    (λ c κs. search needs)
     returns
-    scan-requires
-    enum-told
-    pairs-requires
-    enum-known-found
-    enum-known-found-2
+    (λ c κs. search needs)
+    (λ c. search needs)
+    (λ c κs. search needs)
+    (λ c. search needs)
+    (λ c. search needs)
     returns-2
     returns-3
     returns-4)

@@ -8,25 +8,25 @@ use mathlib.Core.Bool.{Bool}
 use Prim.Native.Nat.{ℕ, _+_, _-_, _≤_, _<_}
 use lib.ListN.{length}
 use Rattle.tables_widest.specs.Sweep.{Sweeps, Swept, Rows-matched}
-use Rattle.tables_widest.specs.SweepLaws.{rows-more, raster-self, sweep-none, sweep-both, settle-done}
+use Rattle.tables_widest.proofs.SweepLaws.{rows-more, raster-self, sweep-none, sweep-both, settle-done}
 use Rattle.tables_widest.proofs.settle.Statement.{statement}
 use Rattle.tables_widest.proofs.settle.Tie as tie
 
 abbrev Inv-loop2 : tie.InvT-loop2
-Inv-loop2 raster₀ lm rm n w steps count left₀ before s₀ raster left s =
+Inv-loop2 raster₀ lm rm sides count n w left₀ before s₀ raster left s =
     (s ≤ n) × ((before ≡ left₀) × ((left ≤ before) × ((length raster ≡ length raster₀)
-    × Sweeps lm rm n w steps (Rows-matched lm rm n w steps s) raster₀ raster (before - left))))
+    × Sweeps lm rm n w (sides .steps) (Rows-matched lm rm n w (sides .steps) s) raster₀ raster (before - left))))
 
 abbrev μ-loop2 : tie.MeasureT-loop2
-μ-loop2 raster₀ lm rm n w steps count left₀ before s₀ raster left s = s
+μ-loop2 raster₀ lm rm sides count n w left₀ before s₀ raster left s = s
 
 abbrev Inv-loop : tie.InvT-loop
-Inv-loop raster₀ lm rm n w steps count left₀ raster left =
+Inv-loop raster₀ lm rm sides count n w left₀ raster left =
     (left ≤ count) × ((length raster ≡ length raster₀)
-    × Sweeps lm rm n w steps (λ (X : List Bool). Unit {0}) raster₀ raster (count - left))
+    × Sweeps lm rm n w (sides .steps) (λ (X : List Bool). Unit {0}) raster₀ raster (count - left))
 
 abbrev μ-loop : tie.MeasureT-loop
-μ-loop raster₀ lm rm n w steps count left₀ raster left = left
+μ-loop raster₀ lm rm sides count n w left₀ raster left = left
 
 loop-holds : tie.Need-loop-holds Inv-loop2 μ-loop2 Inv-loop μ-loop
 loop-holds c =
@@ -40,16 +40,13 @@ loop2-holds c =
     let e : loop .left - loop .left ≡ 0 = omega arith in
     (omega arith, (refl, (omega arith, (refl, λ X d R. rw e (sweep-none R (λ i a b. absurd (omega arith)))))))
 
-sub-s : tie.Need-sub-s Inv-loop2 μ-loop2 Inv-loop μ-loop
-sub-s c = search needs
-
 sweep-row-requires : tie.Need-sweep-row-requires Inv-loop2 μ-loop2 Inv-loop μ-loop
 sweep-row-requires c κs =
     let args = c .before .before .before .before .before .before .before .args in
     let pre = c .before .before .before .before .before .before .before .pre in
     let outer = c .before .before .before .loop .inv .1 .1 (pre .1 .entries) (args .raster .now) (pre .1 .is) in
     let inner = c .before .before .loop2 .inv .1 .1 .1 .1 (outer .after) (args .raster .now) (outer .is) in
-    let below : c .before .before .loop2 .s - 1 < args .n = omega arith in (
+    let below : c .before .before .loop2 .s - 1 < args .sides .«left_states» = omega arith in (
       record { left = pre .0 .left; right = pre .0 .right; table = raster-self (inner .is); wide = pre .0 .wide },
       below,
     )
@@ -73,9 +70,6 @@ sub-left c =
       rows .inv .1 .0,
       rows .inv .1 .1 .0,
     )
-
-loop2-less : tie.Need-loop2-less Inv-loop2 μ-loop2 Inv-loop μ-loop
-loop2-less c = search needs
 
 loop2-again : tie.Need-loop2-again Inv-loop2 μ-loop2 Inv-loop μ-loop
 loop2-again c =
@@ -108,15 +102,13 @@ loop2-again c =
           (
             omega (arith, call .kept),
             λ X d R. rw e (sweep-both (loop .left - rows .left) (call .result) (rows .inv .1 .1 .1 .1 X d R)
-                (call .ensures) (λ Q p q. rows-more (args .lm .now) (args .rm .now) (args .n) (args .w) (args .steps)
+                (call .ensures) (λ Q p q. rows-more (args .lm .now) (args .rm .now) (args .sides .«left_states»)
+                (args .sides .«right_states») (args .sides .steps)
                 (rows .s) X (c .before .before .before .before .loop2-test .taken) p q)),
           ),
         ),
       ),
     )
-
-loop-less : tie.Need-loop-less Inv-loop2 μ-loop2 Inv-loop μ-loop
-loop-less c = search needs
 
 loop-again : tie.Need-loop-again Inv-loop2 μ-loop2 Inv-loop μ-loop
 loop-again c =
@@ -143,8 +135,10 @@ returns c =
     let rows = c .before .before .loop2 in
     let z : rows .s ≡ 0 = omega arith in
     let Swept-from : ℕ → List Bool → List ℕ → Type 0 =
-    λ y X d. Swept (args .lm .now) (args .rm .now) (args .n) (args .w) (args .steps)
-    (Rows-matched (args .lm .now) (args .rm .now) (args .n) (args .w) (args .steps) y) X d (rows .raster)
+    λ y X d. Swept (args .lm .now) (args .rm .now) (args .sides .«left_states») (args .sides .«right_states»)
+    (args .sides .steps)
+    (Rows-matched (args .lm .now) (args .rm .now) (args .sides .«left_states») (args .sides .«right_states»)
+    (args .sides .steps) y) X d (rows .raster)
     (loop .left - rows .left) in
     settle-done (args .count) (rows .left) (loop .left) (pre .0 .wide) (pre .1) (c .if1 .taken) (loop .inv .0)
     (loop .inv .1 .1) (λ X d R. subst (λ (y : ℕ). Swept-from y X d) z (rows .inv .1 .1 .1 .1 X d R))
@@ -159,12 +153,12 @@ settle-spec =
     μ-loop
     loop-holds
     loop2-holds
-    sub-s
+    (λ c. search needs)
     sweep-row-requires
     sub-left
-    loop2-less
+    (λ c. search needs)
     loop2-again
-    loop-less
+    (λ c. search needs)
     loop-again
     same-length
     returns)

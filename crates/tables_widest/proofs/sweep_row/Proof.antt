@@ -5,44 +5,38 @@ use native.Mathlib.Omega.{arith}
 use mathlib.Core.Path.{_≡_, refl}
 use Prim.Native.Nat.{_-_, _*_, _≤_, _<_}
 use lib.ListN.{length}
-use Rattle.clocks_bits.specs.Packed.{bytes}
+use Rattle.bitmaps.specs.Packed.{bytes-for}
 use Rattle.tables_widest.specs.Sweep.{Sweeps, Row-matched}
-use Rattle.tables_widest.specs.SweepLaws.{byte-more, raster-self, entries-few, sweep-none}
+use Rattle.tables_widest.proofs.SweepLaws.{byte-more, raster-self, entries-few, sweep-none}
 use Rattle.tables_widest.proofs.sweep_row.Statement.{statement}
 use Rattle.tables_widest.proofs.sweep_row.Tie as tie
 
 abbrev Inv-loop : tie.InvT-loop
 Inv-loop raster₀ lm rm n w steps s r₀ j₀ raster r j =
-    (j ≤ bytes w) × ((length raster ≡ length raster₀)
+    (j ≤ bytes-for w) × ((length raster ≡ length raster₀)
     × Sweeps lm rm n w steps (Row-matched lm rm w steps s (8 * j)) raster₀ raster r)
 
 abbrev μ-loop : tie.MeasureT-loop
 μ-loop raster₀ lm rm n w steps s r₀ j₀ raster r j = j
 
-add-j : tie.Need-add-j Inv-loop μ-loop
-add-j c = search needs
-
 loop-holds : tie.Need-loop-holds Inv-loop μ-loop
 loop-holds c = (omega arith, (refl, λ X d R. sweep-none R (λ i a b. absurd (omega arith))))
 
-sub-j : tie.Need-sub-j Inv-loop μ-loop
-sub-j c = search needs
-
 sweep-byte-requires : tie.Need-sweep-byte-requires Inv-loop μ-loop
 sweep-byte-requires c κs =
-    let args = c .before .before .before .before .before .before .args in
-    let pre = c .before .before .before .before .before .before .pre in
+    let args = c .before .before .before .before .before .before .before .args in
+    let pre = c .before .before .before .before .before .before .before .pre in
     let loop = c .before .before .loop in
     let swept = loop .inv .1 .1 (pre .0 .table .entries) (args .raster .now) (pre .0 .table .is) in
-    let inside : loop .j - 1 < bytes (args .w) = omega arith in (
+    let inside : loop .j - 1 < bytes-for (args .w) = omega arith in (
       record { left = pre .0 .left; right = pre .0 .right; table = raster-self (swept .is); wide = pre .0 .wide },
       (pre .1, inside),
     )
 
 add-r : tie.Need-add-r Inv-loop μ-loop
 add-r c =
-    let args = c .before .before .before .before .before .before .before .before .before .args in
-    let pre = c .before .before .before .before .before .before .before .before .before .pre in
+    let args = c .before .before .before .before .before .before .before .before .before .before .args in
+    let pre = c .before .before .before .before .before .before .before .before .before .before .pre in
     let loop = c .before .before .before .before .before .loop in
     let swept = loop .inv .1 .1 (pre .0 .table .entries) (args .raster .now) (pre .0 .table .is) in
     omega (
@@ -52,12 +46,9 @@ add-r c =
       entries-few (pre .0 .left .few) (pre .0 .right .few) (pre .0 .table .is),
     )
 
-loop-less : tie.Need-loop-less Inv-loop μ-loop
-loop-less c = search needs
-
 loop-again : tie.Need-loop-again Inv-loop μ-loop
 loop-again c =
-    let args = c .before .before .before .before .before .before .before .before .before .args in
+    let args = c .before .before .before .before .before .before .before .before .before .before .args in
     let loop = c .before .before .before .before .before .loop in
     let call = c .before .before .sweep-byte in (
       omega (arith, loop .inv .0),
@@ -83,12 +74,12 @@ sweep-row-spec =
     (tie.spec
     Inv-loop
     μ-loop
-    add-j
+    (λ c κs. search needs)
     loop-holds
-    sub-j
+    (λ c. search needs)
     sweep-byte-requires
     add-r
-    loop-less
+    (λ c. search needs)
     loop-again
     same-length
     returns)

@@ -2,18 +2,9 @@
 use borrow.Author.Needs.{needs}
 use mathlib.Core.Path.{refl, subst, _∙_}
 use Prim.Native.Nat.{ℕ, _≤_, _<_}
-use Rattle.tables_widest.specs.SweepLaws.{bit-unset, bit-set, visit-unset, visit-fine, visit-clears, without-keeps}
+use Rattle.tables_widest.proofs.SweepLaws.{bit-unset, bit-set, visit-unset, visit-fine, visit-clears, without-keeps}
 use Rattle.tables_widest.proofs.visit.Statement.{statement}
 use Rattle.tables_widest.proofs.visit.Tie as tie
-
-sub-if1 : tie.Need-sub-if1
-sub-if1 c = search needs
-
-cast-if1 : tie.Need-cast-if1
-cast-if1 c = search needs
-
-shr-if1 : tie.Need-shr-if1
-shr-if1 c = search needs
 
 returns : tie.Need-returns
 returns c =
@@ -23,12 +14,6 @@ returns c =
           (pre .1 .1 .1 ∙ bit-unset (args .byte) (args .t) (c .if1 .taken)),
       λ j l. refl,
     )
-
-first-bad-requires : tie.Need-first-bad-requires
-first-bad-requires c κs = search needs
-
-same-length : tie.Need-same-length
-same-length c = search needs
 
 returns-2 : tie.Need-returns-2
 returns-2 c =
@@ -45,9 +30,6 @@ clear-requires c κs =
     let pre = c .before .before .before .before .before .before .before .before .pre in
     let set = pre .1 .1 .1 ∙ bit-set (args .byte) (args .t) (c .before .before .before .before .if1 .left) in
     (pre .0 .left .few, (pre .0 .right .few, (pre .1 .0, (pre .1 .1 .0, (pre .0 .table .is .room, set)))))
-
-same-length-2 : tie.Need-same-length-2
-same-length-2 c = search needs
 
 returns-3 : tie.Need-returns-3
 returns-3 c =
@@ -68,13 +50,13 @@ pub visit-spec : {M : Type 1} → statement M
 visit-spec =
     tie.close
     (tie.spec
-    sub-if1
-    cast-if1
-    shr-if1
+    (λ c. search needs)
+    (λ c. search needs)
+    (λ c. search needs)
     returns
-    first-bad-requires
-    same-length
+    (λ c κs. search needs)
+    (λ c. search needs)
     returns-2
     clear-requires
-    same-length-2
+    (λ c. search needs)
     returns-3)

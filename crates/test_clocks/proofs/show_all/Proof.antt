@@ -27,9 +27,6 @@ part-show-start c = omega arith
 part-show-end : tie.Need-part-show-end Inv-loop μ-loop
 part-show-end c = omega arith
 
-show-requires : tie.Need-show-requires Inv-loop μ-loop
-show-requires c κs = search needs
-
 text-start-requires : tie.Need-text-start-requires Inv-loop μ-loop
 text-start-requires c κs = (omega arith, omega arith, omega arith)
 
@@ -38,9 +35,6 @@ loop-less c = omega arith
 
 loop-again : tie.Need-loop-again Inv-loop μ-loop
 loop-again c = omega arith
-
-returns : tie.Need-returns Inv-loop μ-loop
-returns c = search needs
 
 pub show-all-spec : {M : Type 1} → statement M
 show-all-spec =
@@ -53,8 +47,8 @@ show-all-spec =
     sub-show
     part-show-start
     part-show-end
-    show-requires
+    (λ c κs. search needs)
     text-start-requires
     loop-less
     loop-again
-    returns)
+    (λ c. search needs))

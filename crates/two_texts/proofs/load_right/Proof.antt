@@ -1,7 +1,7 @@
 -- Codes 2 to 11 of the right, then what pairing promises: one law of Paths.antt a path.
 use borrow.Author.Needs.{needs}
 use mathlib.Core.Path.{_∙_}
-use Rattle.clocks_read.specs.Measured.{measured-load, measured-states}
+use Rattle.clocks_read.specs.Laws.{measured-load, measured-states}
 use Rattle.two_texts.specs.Paths.{answer-is, loaded-reading, loaded-wide, right-refused, right-paired}
 use Rattle.two_texts.proofs.load_right.Statement.{statement}
 use Rattle.two_texts.proofs.load_right.Tie as tie
@@ -10,18 +10,6 @@ judge-requires : tie.Need-judge-requires
 judge-requires c κs =
     let start = c .before .before .before .before .before .before in
     (start .pre .1 .counted, start .pre .2)
-
-enum-known-answer : tie.Need-enum-known-answer
-enum-known-answer c = search needs
-
-in-file-requires : tie.Need-in-file-requires
-in-file-requires c κs = search needs
-
-refused-requires : tie.Need-refused-requires
-refused-requires c κs = search needs
-
-enum-told : tie.Need-enum-told
-enum-told c = search needs
 
 paired-requires : tie.Need-paired-requires
 paired-requires c κs =
@@ -37,12 +25,6 @@ paired-requires c κs =
       loaded-wide text _ _ (loads .judge .result) _ _ loaded (told .enum-told .given .1) _ states (start .pre .2),
     )
 
-same-length : tie.Need-same-length
-same-length c = search needs
-
-same-length-2 : tie.Need-same-length-2
-same-length-2 c = search needs
-
 returns : tie.Need-returns
 returns c =
     let marks = c .before in
@@ -52,12 +34,6 @@ returns c =
     right-refused (start .args .left .now) (start .args .l) (start .pre .0) (start .args .right .now) _ _
     (loads .judge .result) _ _ (loads .judge .ensures ∙ measured-load _ _ (start .pre .1) _ _) _ _ _ _ (told .answer .given .1) (marks .in-file .ensures)
     (c .refused .ensures)
-
-same-length-3 : tie.Need-same-length-3
-same-length-3 c = search needs
-
-same-length-4 : tie.Need-same-length-4
-same-length-4 c = search needs
 
 returns-2 : tie.Need-returns-2
 returns-2 c =
@@ -77,14 +53,14 @@ load-right-spec =
     tie.close
     (tie.spec
     judge-requires
-    enum-known-answer
-    in-file-requires
-    refused-requires
-    enum-told
+    (λ c. search needs)
+    (λ c κs. search needs)
+    (λ c κs. search needs)
+    (λ c. search needs)
     paired-requires
-    same-length
-    same-length-2
+    (λ c. search needs)
+    (λ c. search needs)
     returns
-    same-length-3
-    same-length-4
+    (λ c. search needs)
+    (λ c. search needs)
     returns-2)

@@ -1,48 +1,31 @@
 -- Codes 1 to 12 in their order: one law of Paths.antt a path.
 use borrow.Author.Needs.{needs}
-use mathlib.Core.Path.{_∙_}
-use Rattle.clocks_read.specs.Measured.{measured-load, measured-states}
+use mathlib.Core.Path.{_∙_, ap}
+use Rattle.two_texts.specs.Answers.{refused}
+use Rattle.clocks_read.specs.Laws.{measured-load, measured-states}
 use Rattle.two_texts.specs.Paths.{answer-is, loaded-reading, left-too-long, right-too-long, left-refused, both-read}
 use Rattle.two_texts.proofs.load_two.Statement.{statement}
 use Rattle.two_texts.proofs.load_two.Tie as tie
 
-refused-requires : tie.Need-refused-requires
-refused-requires c κs = search needs
-
 returns : tie.Need-returns
 returns c =
-    let short-left = c .before in
+    let short-left = c .before .before in
     let start = short-left .before .before .before .before .before .before .before in
     left-too-long (start .args .left .now) (start .args .right .now) _ _ _ _ _ (short-left .if1 .taken)
-    (c .refused .ensures)
-
-refused-requires-2 : tie.Need-refused-requires-2
-refused-requires-2 c κs = search needs
+    (c .refused .ensures ∙ ap refused (c .before .too-long .ensures))
 
 returns-2 : tie.Need-returns-2
 returns-2 c =
-    let short-right = c .before in
+    let short-right = c .before .before in
     let short-left = short-right .before in
     let start = short-left .before .before .before .before .before .before .before in
     right-too-long (start .args .left .now) (start .args .right .now) (short-left .if1 .left) _ _ _ _ _
-    (short-right .if2 .taken) (c .refused2 .ensures)
+    (short-right .if2 .taken) (c .refused2 .ensures ∙ ap refused (c .before .too-long2 .ensures))
 
 judge-requires : tie.Need-judge-requires
 judge-requires c κs =
     let start = c .before .before .before .before .before .before .before .before .before .before .before .before in
     (start .pre .0 .left-text .counted, start .pre .1 .left)
-
-enum-known-answer : tie.Need-enum-known-answer
-enum-known-answer c = search needs
-
-in-file-requires : tie.Need-in-file-requires
-in-file-requires c κs = search needs
-
-refused-requires-3 : tie.Need-refused-requires-3
-refused-requires-3 c κs = search needs
-
-enum-told : tie.Need-enum-told
-enum-told c = search needs
 
 load-right-requires : tie.Need-load-right-requires
 load-right-requires c κs =
@@ -56,12 +39,6 @@ load-right-requires c κs =
       start .pre .1 .right,
     )
 
-same-length : tie.Need-same-length
-same-length c = search needs
-
-same-length-2 : tie.Need-same-length-2
-same-length-2 c = search needs
-
 returns-3 : tie.Need-returns-3
 returns-3 c =
     let marks = c .before in
@@ -74,18 +51,6 @@ returns-3 c =
     (short-right .if2 .left) _ _ (loads .judge .result) _ _
     (loads .judge .ensures ∙ measured-load _ _ (start .pre .0 .left-text) _ _) _ _ _ _ _
     (told .answer .given .1) (marks .in-file .ensures) (c .refused3 .ensures)
-
-same-length-3 : tie.Need-same-length-3
-same-length-3 c = search needs
-
-same-length-4 : tie.Need-same-length-4
-same-length-4 c = search needs
-
-same-length-5 : tie.Need-same-length-5
-same-length-5 c = search needs
-
-same-length-6 : tie.Need-same-length-6
-same-length-6 c = search needs
 
 returns-4 : tie.Need-returns-4
 returns-4 c =
@@ -107,21 +72,23 @@ pub load-two-spec : {M : Type 1} → statement M
 load-two-spec =
     tie.close
     (tie.spec
-    refused-requires
+    (λ c κs. search needs)
+    (λ c κs. search needs)
     returns
-    refused-requires-2
+    (λ c κs. search needs)
+    (λ c κs. search needs)
     returns-2
     judge-requires
-    enum-known-answer
-    in-file-requires
-    refused-requires-3
-    enum-told
+    (λ c. search needs)
+    (λ c κs. search needs)
+    (λ c κs. search needs)
+    (λ c. search needs)
     load-right-requires
-    same-length
-    same-length-2
+    (λ c. search needs)
+    (λ c. search needs)
     returns-3
-    same-length-3
-    same-length-4
-    same-length-5
-    same-length-6
+    (λ c. search needs)
+    (λ c. search needs)
+    (λ c. search needs)
+    (λ c. search needs)
     returns-4)

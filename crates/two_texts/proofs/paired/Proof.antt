@@ -12,15 +12,6 @@ pair-channels-requires c κs =
       reading-formed (start .args .right .now) (start .args .r) (start .pre .1),
     )
 
-enum-known-answer : tie.Need-enum-known-answer
-enum-known-answer c = search needs
-
-refused-requires : tie.Need-refused-requires
-refused-requires c κs = search needs
-
-enum-told : tie.Need-enum-told
-enum-told c = search needs
-
 add-width : tie.Need-add-width
 add-width c =
     let start = c .before .before .before .before .before .before .before .before .before .before in
@@ -52,9 +43,6 @@ returns c =
     (start .pre .0) (start .pre .1) (pairs .pair-channels .result) (pairs .pair-channels .ensures) _ _ _
     (told .answer .given .1) (c .refused .ensures)
 
-same-length : tie.Need-same-length
-same-length c = search needs
-
 returns-2 : tie.Need-returns-2
 returns-2 c =
     let writes = c .before .before .before in
@@ -70,12 +58,12 @@ paired-spec =
     tie.close
     (tie.spec
     pair-channels-requires
-    enum-known-answer
-    refused-requires
-    enum-told
+    (λ c. search needs)
+    (λ c κs. search needs)
+    (λ c. search needs)
     add-width
     renumber-requires
     accepted-requires
     returns
-    same-length
+    (λ c. search needs)
     returns-2)

@@ -1,5 +1,0 @@
-pub mod Bits
-pub mod Moves
-pub mod Given
-pub mod Packed
-pub mod Put

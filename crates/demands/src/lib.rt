@@ -1,0 +1,1 @@
+// Theorems only, in specs/: demands 1 to 3 about the outcomes of search, check and widest table, for any two systems.

@@ -1,0 +1,57 @@
+-- Document 01: "Limits: text 32,768 bytes; name 31 bytes; 16 channels; 3 clocks; 32 locations; 128 edges; 4
+-- comparisons in a guard or invariant; constant 1,000; 4,096 states." And what follows from them.
+use Prim.Native.Nat.{ℕ, _+_, _*_, _/_}
+
+abbrev pub largest-text : ℕ
+largest-text = 32768
+
+abbrev pub largest-name : ℕ
+largest-name = 31
+
+abbrev pub channel-limit : ℕ
+channel-limit = 16
+
+abbrev pub clock-limit : ℕ
+clock-limit = 3
+
+abbrev pub location-limit : ℕ
+location-limit = 32
+
+abbrev pub edge-limit : ℕ
+edge-limit = 128
+
+abbrev pub comparison-limit : ℕ
+comparison-limit = 4
+
+abbrev pub largest-constant : ℕ
+largest-constant = 1000
+
+abbrev pub state-limit : ℕ
+state-limit = 4096
+
+-- the steps of a text: the tick and its channels
+abbrev pub step-limit : ℕ
+step-limit = channel-limit + 1
+
+-- the entries of a move table: one for each state and step
+abbrev pub move-limit : ℕ
+move-limit = state-limit * step-limit
+
+-- the bytes that hold a bit for each state
+abbrev pub keep-limit : ℕ
+keep-limit = (state-limit + 7) / 8
+
+-- the pairs of a left and a right state
+abbrev pub pair-limit : ℕ
+pair-limit = state-limit * state-limit
+
+-- so many states are few: their slices are small
+abbrev pub few-states : ℕ
+few-states = 256
+
+-- the entries of a move table and the bytes of the bits for few states
+abbrev pub few-moves : ℕ
+few-moves = few-states * step-limit
+
+abbrev pub few-bytes : ℕ
+few-bytes = (few-states + 7) / 8

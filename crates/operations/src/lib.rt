@@ -1,0 +1,166 @@
+// Document 01's five operations, for all bytes, contents and lengths: code and promise of the whole tool on one page. Each
+// parses and measures what it is given, makes slices that have room for it, small ones where small ones do, and hands
+// them to the layers below. There is no heap, and no way to hand a function slices that are made elsewhere by a choice:
+// so the choice stands in each of them.
+use clocks_read::Reading;
+use safe_states::SafeAnswer;
+use search::SearchAnswer;
+use tables::CheckAnswer;
+use tables::WidestAnswer;
+ghost use mathlib.Core.Path.{_≡_};
+ghost use lib.ListN.{length};
+ghost use Rattle.clocks_read.specs.Reading.{read-outcome};
+ghost use Rattle.safe_states.specs.Outcome as safe;
+ghost use Rattle.search.specs.Outcome.{Outcome, Scratch};
+ghost use Rattle.tables.specs.Outcome.{Checked, Widened};
+ghost use Rattle.two_operations.specs.Outcome.{search-outcome, check-outcome, widest-outcome};
+
+// Reads a text: its record and state count, or codes 1 to 11.
+pub fn read(text: &[u8]) -> Reading
+    ensures { λ r. ⌜ r ≡ read-outcome (now (text .entry)) ⌝ }
+{
+    clocks_read::read(text)
+}
+
+// Writes the bits of the safe states into keep, state 0 in the high bit of byte 0; their count and whether the start is
+// one, or codes 1 to 11 and 13.
+pub fn safe_states(text: &[u8], keep: &mut [u8]) -> SafeAnswer
+    ensures { λ r. ⌜ _≡_ {A = safe.Outcome} (record { answer = r; keep = now (keep .exit) })
+        (safe.safe-outcome (now (text .entry)) (now (keep .entry))) ⌝ }
+{
+    safe_states::safe_states(text, keep)
+}
+
+// Looks for a shortest departure of the left text from the right; keep gets the left's safe states, back and line are
+// scratch, run gets the steps. Codes 1 to 13, 15, 17 and 21.
+pub fn search(
+    left: &[u8],
+    right: &[u8],
+    keep: &mut [u8],
+    back: &mut [u32],
+    line: &mut [u32],
+    run: &mut [u32],
+) -> SearchAnswer
+    ensures { λ r. ⌜ (_≡_ {A = Outcome} (record { answer = r; keep = now (keep .exit); run = now (run .exit) })
+        (search-outcome (now (left .entry)) (now (right .entry)) (now (keep .entry)) (length (now (back .entry)))
+        (length (now (line .entry))) (now (run .entry))))
+        × Scratch r (now (back .entry)) (now (back .exit)) (now (line .entry)) (now (line .exit)) ⌝ }
+{
+    let texts = two_texts::measure_two(left, right);
+    if texts.few {
+        let mut lm = clocks_read::moves_for_few_states();
+        let mut rm = clocks_read::moves_for_few_states();
+        let mut lh = clocks_read::bits_for_few_states();
+        let mut rh = clocks_read::bits_for_few_states();
+        return two_operations::search(
+            left,
+            right,
+            texts,
+            &mut lm,
+            &mut rm,
+            &mut lh,
+            &mut rh,
+            keep,
+            back,
+            line,
+            run,
+        );
+    }
+    let mut lm = clocks_read::moves_for_any_text();
+    let mut rm = clocks_read::moves_for_any_text();
+    let mut lh = clocks_read::bits_for_any_text();
+    let mut rh = clocks_read::bits_for_any_text();
+    two_operations::search(
+        left,
+        right,
+        texts,
+        &mut lm,
+        &mut rm,
+        &mut lh,
+        &mut rh,
+        keep,
+        back,
+        line,
+        run,
+    )
+}
+
+// Checks a given table of two texts; keep gets the left's safe states. Codes 1 to 13 and 16 to 20.
+pub fn check(left: &[u8], right: &[u8], keep: &mut [u8], table: &[u8]) -> CheckAnswer
+    ensures { λ r. ⌜ _≡_ {A = Checked} (record { answer = r; keep = now (keep .exit) })
+        (check-outcome (now (left .entry)) (now (right .entry)) (now (keep .entry)) (now (table .entry))) ⌝ }
+{
+    let texts = two_texts::measure_two(left, right);
+    if texts.few {
+        let mut lm = clocks_read::moves_for_few_states();
+        let mut rm = clocks_read::moves_for_few_states();
+        let mut lh = clocks_read::bits_for_few_states();
+        let mut rh = clocks_read::bits_for_few_states();
+        return two_operations::check(
+            left,
+            right,
+            texts,
+            &mut lm,
+            &mut rm,
+            &mut lh,
+            &mut rh,
+            keep,
+            table,
+        );
+    }
+    let mut lm = clocks_read::moves_for_any_text();
+    let mut rm = clocks_read::moves_for_any_text();
+    let mut lh = clocks_read::bits_for_any_text();
+    let mut rh = clocks_read::bits_for_any_text();
+    two_operations::check(
+        left,
+        right,
+        texts,
+        &mut lm,
+        &mut rm,
+        &mut lh,
+        &mut rh,
+        keep,
+        table,
+    )
+}
+
+// Makes the widest table of two texts; keep gets the left's safe states. Codes 1 to 14 and 17.
+pub fn widest(left: &[u8], right: &[u8], keep: &mut [u8], table: &mut [u8]) -> WidestAnswer
+    ensures { λ r. ⌜ _≡_ {A = Widened} (record { answer = r; keep = now (keep .exit); table = now (table .exit) })
+        (widest-outcome (now (left .entry)) (now (right .entry)) (now (keep .entry)) (now (table .entry))) ⌝ }
+{
+    let texts = two_texts::measure_two(left, right);
+    if texts.few {
+        let mut lm = clocks_read::moves_for_few_states();
+        let mut rm = clocks_read::moves_for_few_states();
+        let mut lh = clocks_read::bits_for_few_states();
+        let mut rh = clocks_read::bits_for_few_states();
+        return two_operations::widest(
+            left,
+            right,
+            texts,
+            &mut lm,
+            &mut rm,
+            &mut lh,
+            &mut rh,
+            keep,
+            table,
+        );
+    }
+    let mut lm = clocks_read::moves_for_any_text();
+    let mut rm = clocks_read::moves_for_any_text();
+    let mut lh = clocks_read::bits_for_any_text();
+    let mut rh = clocks_read::bits_for_any_text();
+    two_operations::widest(
+        left,
+        right,
+        texts,
+        &mut lm,
+        &mut rm,
+        &mut lh,
+        &mut rh,
+        keep,
+        table,
+    )
+}

@@ -1,0 +1,147 @@
+-- The ends of the code's paths.
+use mathlib.Core.Path.{_≡_, refl, sym, ap, _∙_}
+use mathlib.Core.Bool.{Bool, true, false}
+use mathlib.Core.List.{List}
+use Prim.Native.Nat.{ℕ, _+_, _/_, _≤_, _<_}
+use native.Mathlib.Omega.{arith}
+use lib.Dec.{ltb}
+use lib.ListN.{length}
+use borrow.Author.Tests.{lt-ltb, le-ltb}
+use Rattle.systems.specs.Tests.{at, ones}
+use Rattle.systems.specs.Finite as finite
+use Rattle.refusals.specs.declared.Refusal.{Refusal}
+use Rattle.refusals.specs.Refusals.{keep-too-short}
+use Rattle.reader_record.specs.declared.Text.{Text}
+use Rattle.bitmaps.specs.Bits.{tab-from, bit-at}
+use Rattle.bitmaps.specs.Packed.{bytes-for, Packed, packed, Bitmap}
+use Rattle.bitmaps.specs.PackedLaws.{packed-bit, packed-length}
+use Rattle.move_tables.specs.Moves.{Bounded}
+use Rattle.clocks.specs.States.{state-count, start-state, input}
+use Rattle.clocks_table.specs.Room.{Room}
+use Rattle.clocks.specs.Safe.{safe-states}
+use Rattle.clocks.specs.Accepted.{Accepted}
+use Rattle.clocks.specs.Judgement.{judgement-few}
+use Rattle.clocks.specs.Contract.{system}
+use Rattle.clocks.specs.Encoded.{table-bounded, table-encoded, bits-bitmap, bits-start, safe-states-same, length-invariants, length-safe}
+use Rattle.clocks_safe.specs.Settle.{Safe-answer}
+use Rattle.clocks_table.specs.Judge.{judge-room}
+use Rattle.refusals.specs.declared.Verdict.the-variants as verdict
+use Rattle.clocks_read.specs.declared.Reading.{Reading}
+use Rattle.clocks_read.specs.Reading.{read-outcome, Loading, load-outcome, loading}
+use Rattle.clocks_read.specs.Laws.{read-accepted, load-reading, load-moves, load-holds}
+use Rattle.safe_states.specs.declared.SafeAnswer.the-variants.{Found, Refused}
+use Rattle.safe_states.specs.Outcome.{Outcome, refused, found-outcome, kept-outcome, answered, safe-outcome}
+use Rattle.limits.specs.Limits.{state-limit, step-limit}
+use Rattle.safe_states.specs.Ready.{Ready}
+
+module _ {t : Text} {n : ℕ} {moves holds keep : List ℕ} (R : Ready t n moves holds keep) where
+  pub ready-bounded : Bounded n (t .«channel_count» + 1) moves
+  ready-bounded = rw (R .count) (table-bounded t (R .accepted) (R .filled .over) moves (R .filled .room) (R .filled .moves-are))
+
+  pub ready-bitmap : Bitmap n holds
+  ready-bitmap = rw (R .count) (bits-bitmap t (R .accepted) (R .filled .under) holds (R .filled .long) (R .filled .holds-are)
+      (length-invariants t))
+
+  pub ready-few : state-count t ≤ state-limit
+  ready-few = judgement-few t (R .accepted .clean)
+
+  -- what the operation on slices gives
+  pub ready-safe : (inputs : List Bool) (after : List ℕ) (r : ℕ) → inputs ≡ tab-from (input t) 0 step-limit
+      → Safe-answer holds moves inputs n (t .«channel_count» + 1) keep after r
+      → (after ≡ packed (state-count t) (safe-states t) keep) × (r ≡ ones (safe-states t))
+  ready-safe inputs after r e S =
+      let (a, b) = S _ (system t (R .accepted)) (rw (R .count)
+      (table-encoded t (R .accepted) (R .filled .over) moves (R .filled .room) (R .filled .moves-are) inputs e))
+      (rw (R .count) (bits-start t (R .accepted) (R .filled .under) holds (R .filled .long) (R .filled .holds-are) (length-invariants t))) in
+      rw (safe-states-same t (R .accepted)) (
+        a ∙ ap
+            (λ (k : ℕ). packed k (finite.safe-states (system t (R .accepted))) keep) (R .count),
+        b,
+      )
+
+  start-in : start-state t < state-count t
+  start-in = unfold system in system t (R .accepted) .start-state .0
+
+  module _ (after : List ℕ) (e : after ≡ packed (state-count t) (safe-states t) keep) where
+    safe-packed : Packed (state-count t) (safe-states t) keep after
+    safe-packed = record { long = length-safe t; room = R .long; is = e }
+
+    pub ready-start : (s : ℕ) → s ≡ start-state t → s / 8 < length after
+    ready-start s q = omega (arith, start-in, packed-length safe-packed, R .long)
+
+    pub ready-found : (s r : ℕ) (b : Bool) → s ≡ start-state t → r ≡ ones (safe-states t) → b ≡ bit-at after s
+        → refused (Found r b) after ≡ found-outcome t keep
+    unfolding found-outcome
+    ready-found s r b q c f = rw (c, f ∙ ap (bit-at after) q ∙ packed-bit safe-packed (start-state t) start-in, e)
+
+-- the paths after the text is read and the slices are filled
+module _ (s k m h : List ℕ) (r : Reading) (m′ h′ : List ℕ) (e : loading r m′ h′ ≡ load-outcome s m h) where
+  reading-is : r ≡ read-outcome s
+  reading-is = ap (λ (l : Loading). l .reading) e ∙ load-reading s m h
+
+  pub safe-refused : (f : Refusal) → r .answer ≡ verdict.Refused f → refused (Refused f) k ≡ safe-outcome s k
+  unfolding safe-outcome answered
+  safe-refused f a = rw (sym (ap (λ (x : Reading). x .answer) reading-is) ∙ a)
+
+  module _ (a : r .answer ≡ verdict.Accepted) where
+    pub is-accepted : read-outcome s .answer ≡ verdict.Accepted
+    is-accepted = sym (ap (λ (x : Reading). x .answer) reading-is) ∙ a
+
+    text-is : r .text ≡ read-outcome s .text
+    text-is = ap (λ (x : Reading). x .text) reading-is
+
+    states-are : r .states ≡ state-count (read-outcome s .text)
+    states-are = ap (λ (x : Reading). x .states) reading-is ∙ read-accepted s is-accepted .states
+
+    pub few-states : r .states ≤ state-limit
+    few-states = omega (
+      arith,
+      states-are,
+      judgement-few (read-outcome s .text)
+          (read-accepted s is-accepted .accepted .clean),
+    )
+
+    outcome-is : safe-outcome s k ≡ kept-outcome (read-outcome s .text) k
+    unfolding safe-outcome answered
+    outcome-is = rw is-accepted
+
+    -- keep is judged by the bytes that it needs
+    module _ (need : ℕ) (n : need ≡ bytes-for (r .states)) where
+      bytes-are : need ≡ bytes-for (state-count (read-outcome s .text))
+      bytes-are = n ∙ ap bytes-for states-are
+
+      pub safe-short : length k < need → (f : Refusal) → f ≡ keep-too-short need
+          → refused (Refused f) k ≡ safe-outcome s k
+      unfolding kept-outcome
+      safe-short l f e =
+          let q : ltb (length k) (bytes-for (state-count (read-outcome s .text))) ≡ true =
+          lt-ltb (length k) (bytes-for (state-count (read-outcome s .text))) (rw bytes-are at l) in
+          rw (outcome-is, e, bytes-are) (rw (q, kept-outcome))
+
+      pub safe-found : need ≤ length k → (o : Outcome) → o ≡ found-outcome (r .text) k → o ≡ safe-outcome s k
+      unfolding kept-outcome
+      safe-found l o f =
+          let q : ltb (length k) (bytes-for (state-count (read-outcome s .text))) ≡ false =
+          le-ltb (length k) (bytes-for (state-count (read-outcome s .text))) (rw bytes-are at l) in
+          f ∙ ap (λ (t : Text). found-outcome t k) text-is ∙ rw outcome-is (rw (q, kept-outcome))
+
+      pub safe-ready : need ≤ length k → (m₀ : ℕ) → m₀ ≡ state-count (read-outcome s .text) → Room m₀ (length m) (length h)
+          → Ready (r .text) (r .states) m′ h′ k
+      safe-ready p m₀ q l =
+          let w = read-accepted s is-accepted .accepted in
+          let t = read-outcome s .text in
+          let c = judgement-few t (w .clean) in
+          let room = judge-room t (w .formed) m₀ q (omega arith) _ _ l in
+          rw (text-is, states-are) (record {
+            accepted = w;
+            count = refl;
+            filled = record {
+              over = m;
+              room = room .0;
+              moves-are = ap (λ (x : Loading). x .moves) e ∙ load-moves s m h is-accepted;
+              under = h;
+              long = room .1;
+              holds-are = ap (λ (x : Loading). x .holds) e ∙ load-holds s m h is-accepted;
+            };
+            long = rw bytes-are at p;
+          })

@@ -1,0 +1,17 @@
+-- What the slices hold when the safe states are to be found.
+use mathlib.Core.Path.{_≡_}
+use mathlib.Core.List.{List}
+use Prim.Native.Nat.{ℕ, _≤_}
+use lib.ListN.{length}
+use Rattle.reader_record.specs.declared.Text.{Text}
+use Rattle.bitmaps.specs.Packed.{bytes-for}
+use Rattle.clocks.specs.States.{state-count}
+use Rattle.clocks.specs.Encoding.{Filled}
+use Rattle.clocks.specs.Accepted.{Accepted}
+
+-- the slices are filled for the accepted text t with n states, and keep is long enough
+pub record Ready (t : Text) (n : ℕ) (moves holds keep : List ℕ) : Type 0 where
+  pub accepted : Accepted t
+  pub count : n ≡ state-count t
+  pub filled : Filled t moves holds
+  pub long : bytes-for (state-count t) ≤ length keep

@@ -1,2 +1,0 @@
-pub mod Prune
-pub mod Laws
