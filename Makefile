@@ -1,10 +1,11 @@
 # make run checks a draft against a contract, make test is the gate.
+# make definitions holds the list of definitions against the files.
 # make library builds the archive for C and Rust; c-example, differential and bench use it; picture needs Netpbm.
 DRAFT ?= examples/Rearm.xta
 CONTRACT ?= examples/Post.xta
 LIBRARY := target/staticlib/libmegzhoi_c.a
 
-.PHONY: run test picture library c-example differential bench
+.PHONY: run test picture definitions library c-example differential bench
 
 run:
 	@mkdir -p target/run
@@ -22,6 +23,10 @@ picture:
 	@cd target/run && ../bin/widest > widest.pbm
 	@pamenlarge 24 target/run/widest.pbm | pnmpad -black -left=2 -right=2 -top=2 -bottom=2 | pnmtopng -quiet \
 		> target/run/widest.png
+
+# No definition that docs/PROMISES.md lists rests on one that it does not list.
+definitions:
+	@python3 tests/definitions.py
 
 library: $(LIBRARY)
 

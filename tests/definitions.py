@@ -76,8 +76,10 @@ def edits():
     """The edits that are there and not named, and those that are named and not there."""
     there = {f"{crate}/{name[:-5]}" for crate in os.listdir("crates") if os.path.isdir(f"crates/{crate}/must-fail")
              for name in os.listdir(f"crates/{crate}/must-fail")}
-    named = set()
-    for cell in re.findall(r"\| ([^|]*) \|$", open("docs/PROMISES.md", encoding="utf-8").read(), re.M):
+    named, edit_last = set(), False
+    for line in open("docs/PROMISES.md", encoding="utf-8"):
+        edit_last = line.startswith("|") and (edit_last or line.rstrip().endswith("| Edit |"))
+        cell = line.rstrip().rstrip("|").rsplit("|", 1)[-1] if edit_last else ""
         for crate, several, one in re.findall(r"(\w+)/(?:\{([\w, -]+)\}|([\w-]+))", cell):
             named |= {f"{crate}/{name.strip()}" for name in (several.split(",") if several else [one])}
     return sorted(there - named), sorted(n for n in named - there if n.split("/")[0] in os.listdir("crates"))

@@ -18,7 +18,8 @@ use Rattle.clocks.specs.Encoding.{judged-table, judged-holds}
 use Rattle.clocks_read.specs.Laws.{measured-load, load-reading}
 use Rattle.clocks_read.specs.declared.Reading.{Reading}
 use Rattle.clocks_read.specs.declared.Measured.{Measured}
-use Rattle.clocks_read.specs.Reading.{refused, judged-reading, read-outcome, Loading, loading, judged-loading, parsed-loading}
+use Rattle.clocks_read.specs.Reading.{refused, judged-reading, read-outcome}
+use Rattle.clocks_read.specs.Loading.{Loading, loading, judged-loading, parsed-loading}
 use Rattle.clocks_read.specs.Measured.{Measures, measured-loading}
 
 refused-accepted : {P : Type 0} (f : Refusal) → _≡_ {A = Verdict} (verdict.Refused f) verdict.Accepted → P
@@ -53,9 +54,3 @@ module _ (m : Measured) (moves holds : List ℕ) where
       → l ≡ measured-loading m moves holds
   unfolding measured-loading parsed-loading
   loads-judged l a q = q ∙ rw a
-
--- reading goes by the judgement on the text that is measured
-pub measured-reading : (s : List ℕ) (m : Measured) → Measures s m → (moves holds : List ℕ) (l : Loading)
-    → l ≡ measured-loading m moves holds → l .reading ≡ read-outcome s
-measured-reading s m e moves holds l q =
-    ap (λ (x : Loading). x .reading) (q ∙ measured-load s m e moves holds) ∙ load-reading s moves holds

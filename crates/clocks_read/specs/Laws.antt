@@ -19,7 +19,8 @@ use Rattle.clocks.specs.Encoding.{table-entry, table-size, judged-table, judged
 use Rattle.clocks.specs.Accepted as accepted
 use Rattle.clocks.specs.Judgement.{judgement-few}
 use Rattle.refusals.specs.declared.Verdict.the-variants.{Accepted, Refused}
-use Rattle.clocks_read.specs.Reading.{refused, judged-reading, parsed-reading, read-outcome, judged-loading, parsed-loading, load-outcome}
+use Rattle.clocks_read.specs.Reading.{refused, judged-reading, parsed-reading, read-outcome}
+use Rattle.clocks_read.specs.Loading.{Loading, judged-loading, parsed-loading, load-outcome}
 use Rattle.limits.specs.Limits.{state-limit}
 use Rattle.reader.specs.declared.Parsed.{Parsed}
 use Rattle.clocks_read.specs.declared.Measured.{Measured}
@@ -100,3 +101,9 @@ measured-states s m e a =
     let p : m .parsed .answer ≡ verdict.Accepted = ap (λ (x : Parsed). x .answer) (e .parsed) ∙ r .parsed in
     e .counted .counts p .count
     ∙ ap state-count (ap (λ (x : Parsed). x .text) (e .parsed) ∙ sym (r .same))
+
+-- reading goes by the judgement on the text that is measured
+pub measured-reading : (s : List ℕ) (m : Measured) → Measures s m → (moves holds : List ℕ) (l : Loading)
+    → l ≡ measured-loading m moves holds → l .reading ≡ read-outcome s
+measured-reading s m e moves holds l q =
+    ap (λ (x : Loading). x .reading) (q ∙ measured-load s m e moves holds) ∙ load-reading s moves holds

@@ -1,3 +1,4 @@
 pub mod Reading
+pub mod Loading
 pub mod Laws
 pub mod Measured

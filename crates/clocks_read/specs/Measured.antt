@@ -7,7 +7,7 @@ use Rattle.reader.specs.Reading.{read-text}
 use Rattle.clocks_states.specs.Parts.{Counted}
 use Rattle.clocks_read.specs.declared.Measured.{Measured}
 use Rattle.refusals.specs.declared.Verdict.the-variants.{Accepted}
-use Rattle.clocks_read.specs.Reading.{Loading, parsed-loading}
+use Rattle.clocks_read.specs.Loading.{Loading, parsed-loading}
 
 -- the ranges and the number of states are those of the text, if it is accepted
 pub record Well-measured (m : Measured) : Type 0 where

@@ -3,7 +3,6 @@ use clocks::Judged;
 use clocks::Ranges;
 use limits::FEW_BYTES;
 use limits::FEW_MOVES;
-use limits::FEW_STATES;
 use limits::KEEP_LIMIT;
 use limits::MOVE_LIMIT;
 use reader::Parsed;
@@ -14,7 +13,8 @@ ghost use mathlib.Core.Path.{_≡_};
 ghost use lib.ListN.{length};
 ghost use Rattle.clocks.specs.States.{state-count};
 ghost use Rattle.clocks_table.specs.Room.{Room};
-ghost use Rattle.clocks_read.specs.Reading.{refused, judged-reading, read-outcome, Loading};
+ghost use Rattle.clocks_read.specs.Reading.{refused, judged-reading, read-outcome};
+ghost use Rattle.clocks_read.specs.Loading.{Loading};
 ghost use Rattle.clocks_read.specs.Measured.{Measures, Well-measured, measured-loading};
 ghost use Rattle.limits.specs.Limits.{move-limit, keep-limit, few-moves, few-bytes};
 
@@ -144,19 +144,4 @@ pub fn bits_for_few_states() -> [u8; FEW_BYTES]
     ensures { λ r. ⌜ length r ≡ few-bytes ⌝ }
 {
     [0; FEW_BYTES]
-}
-
-// Reads a text.
-pub fn read(text: &[u8]) -> Reading
-    ensures { λ r. ⌜ r ≡ read-outcome (now (text .entry)) ⌝ }
-{
-    let m = measure(text);
-    if m.states <= FEW_STATES {
-        let mut moves = moves_for_few_states();
-        let mut holds = bits_for_few_states();
-        return judge(m, &mut moves, &mut holds);
-    }
-    let mut moves = moves_for_any_text();
-    let mut holds = bits_for_any_text();
-    judge(m, &mut moves, &mut holds)
 }

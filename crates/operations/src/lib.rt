@@ -3,6 +3,7 @@
 // them to the layers below. There is no heap, and no way to hand a function slices that are made elsewhere by a choice:
 // so the choice stands in each of them.
 use clocks_read::Reading;
+use limits::FEW_STATES;
 use safe_states::SafeAnswer;
 use search::SearchAnswer;
 use tables::CheckAnswer;
@@ -19,7 +20,15 @@ ghost use Rattle.two_operations.specs.Outcome.{search-outcome, check-outcome, w
 pub fn read(text: &[u8]) -> Reading
     ensures { λ r. ⌜ r ≡ read-outcome (now (text .entry)) ⌝ }
 {
-    clocks_read::read(text)
+    let parsed = clocks_read::measure(text);
+    if parsed.states <= FEW_STATES {
+        let mut moves = clocks_read::moves_for_few_states();
+        let mut holds = clocks_read::bits_for_few_states();
+        return clocks_read::judge(parsed, &mut moves, &mut holds);
+    }
+    let mut moves = clocks_read::moves_for_any_text();
+    let mut holds = clocks_read::bits_for_any_text();
+    clocks_read::judge(parsed, &mut moves, &mut holds)
 }
 
 // Writes the bits of the safe states into keep, state 0 in the high bit of byte 0; their count and whether the start is
@@ -28,7 +37,15 @@ pub fn safe_states(text: &[u8], keep: &mut [u8]) -> SafeAnswer
     ensures { λ r. ⌜ _≡_ {A = safe.Outcome} (record { answer = r; keep = now (keep .exit) })
         (safe.safe-outcome (now (text .entry)) (now (keep .entry))) ⌝ }
 {
-    safe_states::safe_states(text, keep)
+    let m = clocks_read::measure(text);
+    if m.states <= FEW_STATES {
+        let mut moves = clocks_read::moves_for_few_states();
+        let mut holds = clocks_read::bits_for_few_states();
+        return safe_states::safe_in(text, m, &mut moves, &mut holds, keep);
+    }
+    let mut moves = clocks_read::moves_for_any_text();
+    let mut holds = clocks_read::bits_for_any_text();
+    safe_states::safe_in(text, m, &mut moves, &mut holds, keep)
 }
 
 // Looks for a shortest departure of the left text from the right; keep gets the left's safe states, back and line are

@@ -27,7 +27,8 @@ use Rattle.clocks_safe.specs.Settle.{Safe-answer}
 use Rattle.clocks_table.specs.Judge.{judge-room}
 use Rattle.refusals.specs.declared.Verdict.the-variants as verdict
 use Rattle.clocks_read.specs.declared.Reading.{Reading}
-use Rattle.clocks_read.specs.Reading.{read-outcome, Loading, load-outcome, loading}
+use Rattle.clocks_read.specs.Reading.{read-outcome}
+use Rattle.clocks_read.specs.Loading.{Loading, load-outcome, loading}
 use Rattle.clocks_read.specs.Laws.{read-accepted, load-reading, load-moves, load-holds}
 use Rattle.safe_states.specs.declared.SafeAnswer.the-variants.{Found, Refused}
 use Rattle.safe_states.specs.Outcome.{Outcome, refused, found-outcome, kept-outcome, answered, safe-outcome}

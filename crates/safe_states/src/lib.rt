@@ -32,7 +32,7 @@ fn found(t: Text, n: usize, moves: &[u16], holds: &[u8], keep: &mut [u8]) -> Saf
 }
 
 // The operation with slices that have room for the text, which is parsed and measured.
-fn safe_with(
+pub fn safe_in(
     text: &[u8],
     m: Measured,
     moves: &mut [u16],
@@ -57,20 +57,4 @@ fn safe_with(
             found(t, n, moves, holds, keep)
         }
     }
-}
-
-// Writes the bits of the safe states into keep, state 0 in the high bit of byte 0.
-pub fn safe_states(text: &[u8], keep: &mut [u8]) -> SafeAnswer
-    ensures { λ r. ⌜ _≡_ {A = Outcome} (record { answer = r; keep = now (keep .exit) })
-        (safe-outcome (now (text .entry)) (now (keep .entry))) ⌝ }
-{
-    let m = clocks_read::measure(text);
-    if m.states <= limits::FEW_STATES {
-        let mut moves = clocks_read::moves_for_few_states();
-        let mut holds = clocks_read::bits_for_few_states();
-        return safe_with(text, m, &mut moves, &mut holds, keep);
-    }
-    let mut moves = clocks_read::moves_for_any_text();
-    let mut holds = clocks_read::bits_for_any_text();
-    safe_with(text, m, &mut moves, &mut holds, keep)
 }

@@ -1,4 +1,3 @@
 pub mod Outcome
 pub mod Slices
-pub mod Broken
-pub mod Paths
+pub mod Found

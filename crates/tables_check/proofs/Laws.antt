@@ -13,7 +13,8 @@ use Rattle.steps.specs.declared.Step.{Step}
 use Rattle.bitmaps.specs.Bits.{bit-at}
 use Rattle.systems.specs.Tests.{least}
 use Rattle.tables_rows.specs.Raster.{set-at}
-use Rattle.tables_check.specs.Fault.{first-bad, step, step-fault, fault-at, picked, row-from, table-from, Blank}
+use Rattle.tables_check.specs.Fault.{step, step-fault, picked, row-from, table-from}
+use Rattle.tables_check.specs.Scan.{first-bad, fault-at, Blank}
 use Rattle.tables_check.specs.declared.Fault.{Fault}
 use Rattle.tables_check.specs.declared.Fault.the-variants.{Fine, NotAllowed, Broken}
 use Rattle.tables_check.specs.declared.Found.{Found}

@@ -1,3 +1,4 @@
 pub mod Exact
 pub mod Fault
+pub mod Scan
 pub mod Judged

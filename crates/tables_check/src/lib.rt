@@ -10,7 +10,8 @@ ghost use Rattle.move_tables.specs.Moves.{Bounded, no-move};
 ghost use Rattle.bitmaps.specs.Packed.{bytes-for};
 ghost use Rattle.tables_rows.specs.Given.{Slices};
 ghost use Rattle.tables_rows.specs.Raster.{part};
-ghost use Rattle.tables_check.specs.Fault.{ok-of, first-bad, fault-at, table-from, Blank};
+ghost use Rattle.tables_check.specs.Fault.{table-from};
+ghost use Rattle.tables_check.specs.Scan.{ok-of, first-bad, fault-at, Blank};
 ghost use Rattle.limits.specs.Limits.{state-limit};
 
 // A pair that is set: fine, or with a state that may not be there, or breaking a rule at a step.

@@ -12,7 +12,8 @@ use Rattle.move_tables.specs.declared.Sides.{Sides}
 use Rattle.tables_rows.specs.Given.{Systems}
 use Rattle.tables_rows.specs.Raster.{set-at}
 use Rattle.tables_count.specs.Pairs.{pairs-set}
-use Rattle.tables_check.specs.Fault.{fault-at, table-from}
+use Rattle.tables_check.specs.Fault.{table-from}
+use Rattle.tables_check.specs.Scan.{fault-at}
 use Rattle.tables_check.specs.declared.Found.{Found}
 use Rattle.tables_check.specs.declared.Found.the-variants.{Passed, NotAllowedAt, BrokenAt}
 use Rattle.tables_whole.specs.TableFile.{table-file}

@@ -18,7 +18,8 @@ use Rattle.tables_rows.specs.Raster.{set-at, denoted, raster-of}
 use Rattle.tables_rows.specs.RasterLaws.{raster-rows, raster-bit}
 use Rattle.tables_count.specs.Pairs.{pairs-set}
 use Rattle.tables_count.specs.Ones.{pairs-ones, denoted-raster}
-use Rattle.tables_check.specs.Fault.{fault-at, table-from}
+use Rattle.tables_check.specs.Fault.{table-from}
+use Rattle.tables_check.specs.Scan.{fault-at}
 use Rattle.tables_check.specs.Judged.{pairs-judged}
 use Rattle.tables_check.specs.Exact.{judged-is, check-judged}
 use Rattle.tables_check.specs.declared.Found.{Found}

@@ -28,7 +28,7 @@ use Rattle.move_tables.specs.Given.{Given}
 use Rattle.bitmaps.specs.Packed.{bytes-for}
 use Rattle.tables_rows.specs.Raster.{Raster, Table, set-at, without}
 use Rattle.tables_rows.specs.RasterLaws.{pairs-few, part-at, raster-bit, raster-without}
-use Rattle.tables_check.specs.Fault.{ok-of, fails-at, first-bad}
+use Rattle.tables_check.specs.Scan.{ok-of, fails-at, first-bad}
 use Rattle.tables_check.specs.Exact.{first-bad-fails, first-bad-none}
 use Rattle.tables_widest.specs.Sweep.{bit-in, Kept-before, Columns-matched, Counted, matched, Matched, Row-matched, Rows-matched, Settled, Sweeps, Swept}
 use Rattle.limits.specs.Limits.{state-limit, pair-limit}

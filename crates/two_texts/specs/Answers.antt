@@ -10,7 +10,7 @@ use Rattle.reader_record.specs.Formed.{Well-formed}
 use Rattle.bitmaps.specs.Bits.{tab-from, written}
 use Rattle.bitmaps.specs.Packed.{bytes-for, packed}
 use Rattle.clocks.specs.States.{state-count, start-state, input, invariants}
-use Rattle.clocks.specs.Encoding.{table-entry, table-size}
+use Rattle.clocks.specs.Encoding.{Filled, table-entry, table-size}
 use Rattle.refusals.specs.Refusals.{right-file}
 use Rattle.refusals.specs.declared.Verdict.the-variants as verdict
 use Rattle.clocks_read.specs.declared.Reading.{Reading}
@@ -56,15 +56,6 @@ pub record Sized (t : Text) (n : ℕ) : Type 0 where
 pub record Accepted-reading (s : List ℕ) (r : Reading) : Type 0 where
   pub same : r ≡ read-outcome s
   pub accepted : r .answer ≡ verdict.Accepted
-
--- the slices of an accepted text, written over what was there
-pub record Filled (t : Text) (moves holds : List ℕ) : Type 0 where
-  pub over : List ℕ
-  pub room : table-size t ≤ length over
-  pub moves-are : moves ≡ written (table-entry t) (table-size t) over
-  pub under : List ℕ
-  pub long : bytes-for (state-count t) ≤ length under
-  pub holds-are : holds ≡ packed (state-count t) (invariants t) under
 
 -- how many entries the right's table has by the left's steps
 abbrev pub size-by-left : List ℕ → List ℕ → ℕ

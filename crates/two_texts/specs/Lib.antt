@@ -3,5 +3,3 @@ pub mod Measured
 pub mod Laws
 pub mod Loaded
 pub mod Answers
-pub mod Tables
-pub mod Paths

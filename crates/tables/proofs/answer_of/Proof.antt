@@ -1,7 +1,7 @@
 use borrow.Author.Needs.{needs}
 use native.Mathlib.Omega.{arith}
 use mathlib.Core.Path.{ap}
-use Rattle.tables.specs.Paths.{check-of}
+use Rattle.tables.specs.Found.{check-of}
 use Rattle.tables.specs.declared.CheckAnswer.the-variants.{Refused}
 use Rattle.tables.proofs.answer_of.Statement.{statement}
 use Rattle.tables.proofs.answer_of.Tie as tie

@@ -1,6 +1,6 @@
 use borrow.Author.Needs.{needs}
-use Rattle.tables.specs.Broken.{raster-in}
-use Rattle.tables.specs.Paths.{raster-rest, header-in, raster-long, check-keep-short, check-other, check-not-safe, check-scanned}
+use Rattle.tables.proofs.Broken.{raster-in}
+use Rattle.tables.proofs.Paths.{raster-rest, header-in, raster-long, check-keep-short, check-other, check-not-safe, check-scanned}
 use Rattle.tables.proofs.check.Statement.{statement}
 use Rattle.tables.proofs.check.Tie as tie
 use Rattle.tables.proofs.check.Reads as reads

@@ -1,6 +1,6 @@
 use borrow.Author.Needs.{needs}
 use native.Mathlib.Omega.{arith}
-use Rattle.tables.specs.Paths.{widest-keep-short, widest-table-short, widest-not-safe, widest-made}
+use Rattle.tables.proofs.Paths.{widest-keep-short, widest-table-short, widest-not-safe, widest-made}
 use Rattle.tables.proofs.widest.Statement.{statement}
 use Rattle.tables.proofs.widest.Tie as tie
 use Rattle.tables.proofs.widest.Reads as reads

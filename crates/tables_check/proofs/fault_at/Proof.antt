@@ -12,7 +12,8 @@ use Rattle.bitmaps.specs.Packed.{bytes-for}
 use Rattle.tables_rows.specs.Raster.{set-at}
 use Rattle.tables_rows.specs.RasterLaws.{part-length}
 use Rattle.tables_check.specs.declared.Fault.{Fault}
-use Rattle.tables_check.specs.Fault.{fault-at, first-bad, step-fault}
+use Rattle.tables_check.specs.Fault.{step-fault}
+use Rattle.tables_check.specs.Scan.{fault-at, first-bad}
 use Rattle.tables_check.proofs.Laws.{fault-unset, fault-unsafe, fault-untrue, fault-rules, step-broken, step-fine}
 use Rattle.tables_check.proofs.fault_at.Statement.{statement}
 use Rattle.tables_check.proofs.fault_at.Tie as tie

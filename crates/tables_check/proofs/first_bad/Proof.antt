@@ -8,7 +8,7 @@ use Prim.Native.Nat.{_+_, _-_, _*_, _≤_, _<_}
 use Rattle.systems.specs.Tests.{least}
 use Rattle.limits.specs.Limits.{move-limit}
 use Rattle.move_tables.specs.MoveLaws.{target, reach, base-few}
-use Rattle.tables_check.specs.Fault.{fails-at, first-bad}
+use Rattle.tables_check.specs.Scan.{fails-at, first-bad}
 use Rattle.tables_check.proofs.Laws.{least-yes, least-no, least-end}
 use Rattle.tables_check.proofs.first_bad.Statement.{statement}
 use Rattle.tables_check.proofs.first_bad.Tie as tie

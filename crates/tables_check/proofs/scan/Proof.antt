@@ -12,7 +12,8 @@ use Rattle.tables_rows.specs.Raster.{part, raster-limit}
 use Rattle.tables_rows.specs.RasterLaws.{part-length, part-between, row-few, row-inside}
 use Rattle.tables_check.specs.declared.Fault.{Fault}
 use Rattle.tables_check.specs.declared.Found.{Found}
-use Rattle.tables_check.specs.Fault.{fault-at, picked, row-from, table-from}
+use Rattle.tables_check.specs.Fault.{picked, row-from, table-from}
+use Rattle.tables_check.specs.Scan.{fault-at}
 use Rattle.tables_check.proofs.Laws.{row-step, row-done, row-skip, fault-unset, table-step, table-end, picked-fine, picked-not-allowed, picked-broken}
 use Rattle.tables_check.proofs.scan.Statement.{statement}
 use Rattle.tables_check.proofs.scan.Tie as tie

@@ -1,5 +1,5 @@
 use borrow.Author.Needs.{needs}
-use Rattle.two_operations.specs.Paths.{loaded-ready, loaded-bits, check-refused-done, check-done}
+use Rattle.two_operations.proofs.Paths.{loaded-ready, loaded-bits, check-refused-done, check-done}
 use Rattle.two_operations.proofs.check.Statement.{statement}
 use Rattle.two_operations.proofs.check.Tie as tie
 use Rattle.two_operations.proofs.check.Reads as reads

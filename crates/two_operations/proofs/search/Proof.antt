@@ -1,7 +1,7 @@
 use borrow.Author.Needs.{needs}
 use mathlib.Core.Path.{refl}
 use lib.ListN.{length}
-use Rattle.two_operations.specs.Paths.{loaded-ready, search-refused, search-done}
+use Rattle.two_operations.proofs.Paths.{loaded-ready, search-refused, search-done}
 use Rattle.two_operations.proofs.search.Statement.{statement}
 use Rattle.two_operations.proofs.search.Tie as tie
 use Rattle.two_operations.proofs.search.Reads as reads

@@ -1,5 +1,5 @@
 use borrow.Author.Needs.{needs}
-use Rattle.two_operations.specs.Paths.{loaded-ready, loaded-bits, widest-refused-done, widest-done}
+use Rattle.two_operations.proofs.Paths.{loaded-ready, loaded-bits, widest-refused-done, widest-done}
 use Rattle.two_operations.proofs.widest.Statement.{statement}
 use Rattle.two_operations.proofs.widest.Tie as tie
 use Rattle.two_operations.proofs.widest.Reads as reads

@@ -1,7 +1,7 @@
 -- The sizes and the inputs are those that the callees promise.
 use borrow.Author.Needs.{needs}
 use Rattle.clocks_states.specs.Laws.{inputs-done}
-use Rattle.two_texts.specs.Paths.{numbers-done}
+use Rattle.two_texts.proofs.Paths.{numbers-done}
 use Rattle.two_texts.proofs.accepted.Statement.{statement}
 use Rattle.two_texts.proofs.accepted.Tie as tie
 

@@ -2,7 +2,7 @@
 use borrow.Author.Needs.{needs}
 use mathlib.Core.Path.{_∙_}
 use Rattle.clocks_read.specs.Laws.{measured-load, measured-states}
-use Rattle.two_texts.specs.Paths.{answer-is, loaded-reading, loaded-wide, right-refused, right-paired}
+use Rattle.two_texts.proofs.Paths.{answer-is, loaded-reading, loaded-wide, right-refused, right-paired}
 use Rattle.two_texts.proofs.load_right.Statement.{statement}
 use Rattle.two_texts.proofs.load_right.Tie as tie
 

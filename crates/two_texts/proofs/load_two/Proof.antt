@@ -3,7 +3,7 @@ use borrow.Author.Needs.{needs}
 use mathlib.Core.Path.{_∙_, ap}
 use Rattle.two_texts.specs.Answers.{refused}
 use Rattle.clocks_read.specs.Laws.{measured-load, measured-states}
-use Rattle.two_texts.specs.Paths.{answer-is, loaded-reading, left-too-long, right-too-long, left-refused, both-read}
+use Rattle.two_texts.proofs.Paths.{answer-is, loaded-reading, left-too-long, right-too-long, left-refused, both-read}
 use Rattle.two_texts.proofs.load_two.Statement.{statement}
 use Rattle.two_texts.proofs.load_two.Tie as tie
 

@@ -1,7 +1,7 @@
 -- Code 12 or the right table by the left steps: one law of Paths.antt a path.
 use borrow.Author.Needs.{needs}
 use native.Mathlib.Omega.{arith}
-use Rattle.two_texts.specs.Paths.{reading-formed, reading-sized, paired-refused, paired-renumbers, paired-accepted}
+use Rattle.two_texts.proofs.Paths.{reading-formed, reading-sized, paired-refused, paired-renumbers, paired-accepted}
 use Rattle.two_texts.proofs.paired.Statement.{statement}
 use Rattle.two_texts.proofs.paired.Tie as tie
 

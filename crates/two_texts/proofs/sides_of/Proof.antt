@@ -1,7 +1,7 @@
 -- Each number is the one that the callee promises.
 use native.Mathlib.Omega.{arith}
 use Rattle.clocks_states.specs.Laws.{start-fits, start-done}
-use Rattle.two_texts.specs.Paths.{sides-done}
+use Rattle.two_texts.proofs.Paths.{sides-done}
 use Rattle.two_texts.proofs.sides_of.Statement.{statement}
 use Rattle.two_texts.proofs.sides_of.Tie as tie
 

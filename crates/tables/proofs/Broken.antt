@@ -13,16 +13,14 @@ use Rattle.tables_check.specs.declared.Fault.{Fault}
 use Rattle.tables_check.specs.declared.Fault.the-variants.{Fine, NotAllowed, Broken}
 use Rattle.tables_check.specs.declared.Found.{Found}
 use Rattle.tables_check.specs.declared.Found.the-variants.{Passed, NotAllowedAt, BrokenAt}
-use Rattle.tables_check.specs.Fault.{fault-at, picked, table-from}
+use Rattle.tables_check.specs.Fault.{picked, table-from}
+use Rattle.tables_check.specs.Scan.{fault-at}
 use Rattle.tables_check.specs.Judged.{Lowest-fault}
 use Rattle.tables_check.specs.Exact.{scan-told}
+use Rattle.tables.specs.Found.{In-table}
 use Rattle.tables_whole.specs.Answer.{answer-of, raster-answer}
 use Rattle.tables_whole.specs.declared.TableAnswer.{TableAnswer}
 use Rattle.tables_whole.specs.declared.TableAnswer.the-variants as told
-
--- the pair of a broken rule is one of n rows and w columns
-abbrev pub In-table : ℕ → ℕ → TableAnswer → Type 0
-In-table n w a = (c : Step) (s t : ℕ) → a ≡ told.Broken c s t → (s < n) × (t < w)
 
 passed-broken : (c : Step) (s t : ℕ) → Passed ≡ BrokenAt c s t → ⊥
 passed-broken c s t e = let z : _≡_ {A = ℕ} 0 1 = cc in absurd (omega arith)

@@ -38,14 +38,8 @@ use Rattle.tables.specs.declared.CheckAnswer.the-variants as check
 use Rattle.tables.specs.declared.WidestAnswer.{WidestAnswer}
 use Rattle.tables.specs.declared.WidestAnswer.the-variants as made
 use Rattle.tables.specs.Outcome.{Checked, scanned, check-systems, Widened, widest-refused, widest-systems}
+use Rattle.tables.specs.Found.{check-of}
 use Rattle.tables.specs.Slices.{Checks, Widens}
-
--- the answer about a raster as the operation's
-unfoldable pub check-of : ℕ → ℕ → ℕ → TableAnswer → CheckAnswer
-check-of w ls rs (told.Accepted count) = check.Accepted count
-check-of w ls rs told.StartNotSet = check.Refused (start-pair-not-set ls rs)
-check-of w ls rs (told.NotAllowed s t) = check.Refused (pair-not-allowed s t)
-check-of w ls rs (told.Broken step s t) = check.Refused (rule-broken w (step .number) s t)
 
 checked-of : (w ls rs : ℕ) (b : Bool) (f : Found) (m : ℕ)
     → check-of w ls rs (cond b (answer-of f m) told.StartNotSet) ≡ cond (not b)

@@ -4,8 +4,8 @@ use mathlib.Core.Path.{_∙_}
 use native.Mathlib.Omega.{arith}
 use Rattle.clocks_read.specs.Laws.{measured-load, measured-states}
 use Rattle.safe_states.proofs.Paths.{safe-refused, is-accepted, few-states, safe-short, safe-found, safe-ready}
-use Rattle.safe_states.proofs.safe_with.Statement.{statement}
-use Rattle.safe_states.proofs.safe_with.Tie as tie
+use Rattle.safe_states.proofs.safe_in.Statement.{statement}
+use Rattle.safe_states.proofs.safe_in.Tie as tie
 
 judge-requires : tie.Need-judge-requires
 judge-requires c κs =
@@ -60,8 +60,8 @@ returns-3 c =
     safe-found text (start .args .keep .now) _ _ (judges .result) _ _ loaded told _ (c .before .before .before .before .before .before .before .before .bytes-for .ensures)
     (c .before .before .before .before .before .before .before .if1 .left) _ (c .before .before .found .ensures)
 
-pub safe-with-spec : {M : Type 1} → statement M
-safe-with-spec =
+pub safe-in-spec : {M : Type 1} → statement M
+safe-in-spec =
     tie.close
     (tie.spec
     judge-requires

@@ -13,28 +13,24 @@ use Rattle.reader_record.specs.declared.Text.{Text}
 use Rattle.reader_formed.specs.Cases.{when-equal}
 use Rattle.bitmaps.specs.Bits.{tab-from}
 use Rattle.bitmaps.specs.BitLaws.{tab-at, length-tab, written-at, written-length}
-use Rattle.systems.specs.Sieve.{length-table}
 use Rattle.move_tables.specs.Moves.{Bounded, Encodes}
 use Rattle.clocks.specs.States.{state-count, next, input, invariants}
 use Rattle.clocks.specs.Contract.{signature, system}
-use Rattle.clocks.specs.Encoded.{table-bounded, table-encoded, bits-bitmap, bits-start}
+use Rattle.clocks.specs.Encoding.{Filled}
+use Rattle.clocks.specs.Encoded.{length-invariants, table-bounded, table-encoded, bits-bitmap, bits-start}
 use Rattle.pairing.specs.Channels.{Channel}
 use Rattle.pairing.specs.Table as by-map
 use Rattle.pairing.specs.Equal.{tick-stays, step-there}
 use Rattle.two_texts.specs.Two.{text-of, step-of, Compared, right-system}
 use Rattle.two_texts.specs.Laws.{Judged, named, channels-equal}
 use Rattle.two_texts.specs.Loaded.{Loaded}
-use Rattle.two_texts.specs.Answers.{sides-of, accepted as accepted-two, size-by-left, by-left, Filled, Right-filled}
+use Rattle.two_texts.specs.Answers.{sides-of, accepted as accepted-two, size-by-left, by-left, Right-filled}
 use Rattle.limits.specs.Limits.{step-limit}
 
 -- a text's table fits wherever one with the most steps does
 pub table-fits : (t : Text) (steps room : ℕ) → steps ≤ step-limit → state-count t * step-limit ≤ room
     → state-count t * steps ≤ room
 table-fits t steps room h l = omega (arith, mul-le-mul-left (state-count t) h)
-
-length-invariants : (t : Text) → length (invariants t) ≡ state-count t
-unfolding invariants
-length-invariants t = length-table (state-count t) _
 
 module _ (left right : List ℕ) (j : Judged left right) where
   -- each step of the left is a step of the right

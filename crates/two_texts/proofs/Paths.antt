@@ -14,13 +14,14 @@ use Rattle.reader_record.specs.declared.Text.{Text}
 use Rattle.reader_record.specs.Formed.{Well-formed}
 use Rattle.bitmaps.specs.Bits.{tab-from, written}
 use Rattle.bitmaps.specs.BitLaws.{written-length}
-use Rattle.clocks.specs.Encoding.{table-entry, table-size}
+use Rattle.clocks.specs.Encoding.{Filled, table-entry, table-size}
 use Rattle.clocks_table.specs.Room.{Room}
 use Rattle.clocks.specs.States.{state-count, start-state, input}
 use Rattle.clocks.specs.Accepted as accepted
 use Rattle.clocks.specs.Judgement.{judgement-few}
 use Rattle.clocks_read.specs.declared.Reading.{Reading}
-use Rattle.clocks_read.specs.Reading.{read-outcome, Loading, load-outcome, loading}
+use Rattle.clocks_read.specs.Reading.{read-outcome}
+use Rattle.clocks_read.specs.Loading.{Loading, load-outcome, loading}
 use Rattle.clocks_read.specs.Laws.{read-accepted, load-reading, load-moves, load-holds}
 use Rattle.pairing.specs.declared.Matched.the-variants.{Equal, Unmatched}
 use Rattle.pairing.specs.declared.Pairing.{Pairing}
@@ -33,8 +34,8 @@ use Rattle.two_texts.specs.declared.TwoTexts.{TwoTexts}
 use Rattle.two_texts.specs.Two.{text-of, too-long-in, refused-in, refused-pairing, or-else, texts-judged, channels-judged, two-judged, step-of}
 use Rattle.two_texts.specs.Laws.{Judged, judged-none, named}
 use Rattle.two_texts.specs.Loaded.{refusal-in, Loads}
-use Rattle.two_texts.specs.Answers.{refused, sides-of, accepted as accepted-two, Sized, Accepted-reading, by-left, Filled, Paired, Right-loaded}
-use Rattle.two_texts.specs.Tables.{table-fits, step-below, map-at, both-loaded}
+use Rattle.two_texts.specs.Answers.{refused, sides-of, accepted as accepted-two, Sized, Accepted-reading, by-left, Paired, Right-loaded}
+use Rattle.two_texts.proofs.Tables.{table-fits, step-below, map-at, both-loaded}
 use Rattle.limits.specs.Limits.{largest-text, state-limit, step-limit}
 
 -- a refusal is not an acceptance
