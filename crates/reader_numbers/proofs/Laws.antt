@@ -6,7 +6,7 @@ use native.Mathlib.Numerals.{add-one}
 use native.Mathlib.Omega.{arith}
 use lib.ListN.{length, set, length-set}
 use Rattle.reader_numbers.specs.Numbers.{put-at, rows}
-use Rattle.reader_numbers.specs.Lengths.{length-rows}
+use Rattle.reader_numbers.proofs.Lengths.{length-rows}
 
 -- a number past the end is dropped
 pub set-past : (r : List ℕ) (at x : ℕ) → length r ≤ at → r ≡ set r at x

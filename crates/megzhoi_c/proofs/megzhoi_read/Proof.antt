@@ -2,7 +2,7 @@
 use mathlib.Core.Path.{ap, _∙_}
 use Rattle.clocks_read.specs.declared.Reading.{Reading}
 use Rattle.megzhoi_c.specs.Returned.{of-read, recorded}
-use Rattle.megzhoi_c.specs.Laws.{handed-out}
+use Rattle.megzhoi_c.proofs.Laws.{handed-out}
 use borrow.Author.Needs.{needs}
 use Rattle.megzhoi_c.proofs.megzhoi_read.Statement.{statement}
 use Rattle.megzhoi_c.proofs.megzhoi_read.Tie as tie

@@ -1,7 +1,7 @@
 -- `megzhoi_c::megzhoi_safe_states` meets its contract, by the callees' contracts and the definitions of `Returned`.
 use mathlib.Core.Path.{ap}
 use Rattle.megzhoi_c.specs.Returned.{of-safe}
-use Rattle.megzhoi_c.specs.Laws.{handed-out}
+use Rattle.megzhoi_c.proofs.Laws.{handed-out}
 use Rattle.safe_states.specs.Outcome.{Outcome}
 use borrow.Author.Needs.{needs}
 use Rattle.megzhoi_c.proofs.megzhoi_safe_states.Statement.{statement}

@@ -1,7 +1,7 @@
 -- `megzhoi_c::megzhoi_search` meets its contract, by the callees' contracts and the definitions of `Returned`.
 use mathlib.Core.Path.{ap, _∙_}
 use Rattle.megzhoi_c.specs.Returned.{of-search}
-use Rattle.megzhoi_c.specs.Laws.{handed-out}
+use Rattle.megzhoi_c.proofs.Laws.{handed-out}
 use Rattle.search.specs.Outcome.{Outcome, scratch-free}
 use borrow.Author.Needs.{needs}
 use Rattle.megzhoi_c.proofs.megzhoi_search.Statement.{statement}

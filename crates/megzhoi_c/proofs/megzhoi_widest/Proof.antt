@@ -2,7 +2,7 @@
 use mathlib.Core.Path.{ap}
 use Rattle.tables.specs.Outcome.{Widened}
 use Rattle.megzhoi_c.specs.Returned.{of-widest}
-use Rattle.megzhoi_c.specs.Laws.{handed-out}
+use Rattle.megzhoi_c.proofs.Laws.{handed-out}
 use borrow.Author.Needs.{needs}
 use Rattle.megzhoi_c.proofs.megzhoi_widest.Statement.{statement}
 use Rattle.megzhoi_c.proofs.megzhoi_widest.Tie as tie

@@ -5,7 +5,7 @@ use native.Mathlib.Omega.{arith}
 use Rattle.limits.specs.Limits.{channel-limit, clock-limit, location-limit, edge-limit}
 use Rattle.reader_numbers.specs.Layout.{name-size, channel-size, location-size}
 use Rattle.reader_numbers.specs.Numbers.{rows, counts, channel-row, clock-row, location-row, edge-row, numbers}
-use Rattle.reader_numbers.specs.Lengths.{rows-after, channel-length, clock-length, location-length}
+use Rattle.reader_numbers.proofs.Lengths.{rows-after, channel-length, clock-length, location-length}
 use Rattle.reader_numbers.proofs.Laws.{joined}
 use borrow.Author.Needs.{needs}
 use Rattle.reader_numbers.proofs.write.Statement.{statement}

@@ -4,7 +4,7 @@ use native.Mathlib.Omega.{arith}
 use Rattle.limits.specs.Limits.{channel-limit}
 use Rattle.reader_numbers.specs.Layout.{channels-place, channel-size}
 use Rattle.reader_numbers.specs.Numbers.{channel-row}
-use Rattle.reader_numbers.specs.Lengths.{channel-length}
+use Rattle.reader_numbers.proofs.Lengths.{channel-length}
 use Rattle.reader_numbers.proofs.Laws.{Written, none-written, one-written, all-written, same-size}
 use borrow.Author.Needs.{needs}
 use Rattle.reader_numbers.proofs.write_channels.Statement.{statement}

@@ -4,7 +4,7 @@ use native.Mathlib.Omega.{arith}
 use Rattle.limits.specs.Limits.{clock-limit}
 use Rattle.reader_numbers.specs.Layout.{clocks-place, name-size}
 use Rattle.reader_numbers.specs.Numbers.{clock-row}
-use Rattle.reader_numbers.specs.Lengths.{clock-length}
+use Rattle.reader_numbers.proofs.Lengths.{clock-length}
 use Rattle.reader_numbers.proofs.Laws.{Written, none-written, one-written, all-written, same-size}
 use borrow.Author.Needs.{needs}
 use Rattle.reader_numbers.proofs.write_clocks.Statement.{statement}

@@ -8,7 +8,7 @@ use Rattle.reader_record.specs.Record.{comparison}
 use Rattle.limits.specs.Limits.{comparison-limit}
 use Rattle.reader_numbers.specs.Layout.{comparison-size}
 use Rattle.reader_numbers.specs.Numbers.{rows, comparison-numbers, constraint-numbers}
-use Rattle.reader_numbers.specs.Lengths.{comparison-length}
+use Rattle.reader_numbers.proofs.Lengths.{comparison-length}
 use Rattle.reader_numbers.proofs.Laws.{joined, Written, none-written, one-written, all-written, same-size}
 use borrow.Author.Needs.{needs}
 use Rattle.reader_numbers.proofs.write_constraint.Statement.{statement}

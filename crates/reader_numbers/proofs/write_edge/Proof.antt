@@ -3,7 +3,7 @@ use mathlib.Core.Path.{refl}
 use mathlib.Core.List.{[], _∷_, _++_}
 use native.Mathlib.Omega.{arith}
 use Rattle.reader_numbers.specs.Numbers.{label-numbers, constraint-numbers, edge-numbers}
-use Rattle.reader_numbers.specs.Lengths.{constraint-length}
+use Rattle.reader_numbers.proofs.Lengths.{constraint-length}
 use Rattle.reader_numbers.proofs.Laws.{joined}
 use borrow.Author.Needs.{needs}
 use Rattle.reader_numbers.proofs.write_edge.Statement.{statement}

@@ -4,7 +4,7 @@ use native.Mathlib.Omega.{arith}
 use Rattle.limits.specs.Limits.{edge-limit}
 use Rattle.reader_numbers.specs.Layout.{edges-place, edge-size}
 use Rattle.reader_numbers.specs.Numbers.{edge-row}
-use Rattle.reader_numbers.specs.Lengths.{edge-length}
+use Rattle.reader_numbers.proofs.Lengths.{edge-length}
 use Rattle.reader_numbers.proofs.Laws.{Written, none-written, one-written, all-written, same-size}
 use borrow.Author.Needs.{needs}
 use Rattle.reader_numbers.proofs.write_edges.Statement.{statement}

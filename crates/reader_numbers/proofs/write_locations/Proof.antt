@@ -4,7 +4,7 @@ use native.Mathlib.Omega.{arith}
 use Rattle.limits.specs.Limits.{location-limit}
 use Rattle.reader_numbers.specs.Layout.{locations-place, location-size}
 use Rattle.reader_numbers.specs.Numbers.{location-row}
-use Rattle.reader_numbers.specs.Lengths.{location-length}
+use Rattle.reader_numbers.proofs.Lengths.{location-length}
 use Rattle.reader_numbers.proofs.Laws.{Written, none-written, one-written, all-written, same-size}
 use borrow.Author.Needs.{needs}
 use Rattle.reader_numbers.proofs.write_locations.Statement.{statement}
