@@ -1,28 +1,34 @@
-# make run checks a draft against a contract, make test is the gate.
-# make definitions holds the list of definitions against the files.
-# make library builds the archive for C and Rust; c-example, differential and bench use it; picture needs Netpbm.
+# make run        checks a draft against a contract: YES, NO with a run, or a refusal (DRAFT=, CONTRACT=)
+# make table      writes the widest table of the two to TABLE
+# make recheck    checks TABLE against the two
+# make picture    shows the widest table as a picture (needs Netpbm)
+# make test       the gate: proves everything from nothing, tries every must-fail edit, runs the test programs
+# make definitions  holds docs/ against the files (needs python3)
+# make programs   runs the three programs on files at the limits (needs python3)
+# make library    the archive for C and Rust; c-example, differential and bench use it (cc; cargo)
 DRAFT ?= examples/Rearm.xta
 CONTRACT ?= examples/Post.xta
+TABLE ?= target/run/table.pbm
+PICTURE ?= target/run/table.png
 LIBRARY := target/staticlib/libmegzhoi_c.a
 
-.PHONY: run test picture definitions library c-example differential bench
+.PHONY: run table recheck picture test definitions library c-example differential bench
 
 run:
-	@mkdir -p target/run
-	@rt check megzhoi > target/run/check.log 2>&1 || { tail -n 20 target/run/check.log >&2; exit 1; }
-	@cp "$(DRAFT)" target/run/left.xta && cp "$(CONTRACT)" target/run/right.xta && cd target/run && ../bin/megzhoi
+	@scripts/ask megzhoi "$(DRAFT)" "$(CONTRACT)"
+
+table:
+	@scripts/table "$(DRAFT)" "$(CONTRACT)" "$(TABLE)"
+
+recheck:
+	@[ -f "$(TABLE)" ] || { echo "there is no table $(TABLE): make table writes one" >&2; exit 2; }
+	@scripts/ask recheck "$(DRAFT)" "$(CONTRACT)" "$(TABLE)"
+
+picture: table
+	@scripts/picture "$(TABLE)" "$(PICTURE)"
 
 test:
 	@.ci/run
-
-# The widest table of DRAFT against CONTRACT as target/run/widest.png, a black square of 24 dots for each pair.
-picture:
-	@mkdir -p target/run
-	@rt check widest > target/run/check.log 2>&1 || { tail -n 20 target/run/check.log >&2; exit 1; }
-	@cp "$(DRAFT)" target/run/left.xta && cp "$(CONTRACT)" target/run/right.xta
-	@cd target/run && ../bin/widest > widest.pbm
-	@pamenlarge 24 target/run/widest.pbm | pnmpad -black -left=2 -right=2 -top=2 -bottom=2 | pnmtopng -quiet \
-		> target/run/widest.png
 
 # No definition that docs/PROMISES.md lists rests on one that it does not list.
 definitions:
@@ -31,8 +37,7 @@ definitions:
 library: $(LIBRARY)
 
 $(LIBRARY): crates.txt $(shell find crates -name '*.rt' -o -name '*.antt')
-	@mkdir -p target/run
-	@rt staticlib megzhoi_c > target/run/library.log 2>&1 || { tail -n 20 target/run/library.log >&2; exit 1; }
+	@scripts/prove megzhoi_c staticlib
 
 c-example: library
 	@mkdir -p target/run

@@ -1,4 +1,4 @@
--- A bitmap that holds a table of n entries in its first bytes, spare bits 0.
+-- A bitmap that holds a table of n entries in its first bytes, spare bits 0, as keep does (SPECIFICATION 8.4).
 use mathlib.Core.Path.{_≡_}
 use mathlib.Core.Bool.{Bool}
 use mathlib.Core.List.{List}
@@ -7,11 +7,11 @@ use lib.ListN.{length}
 use Rattle.systems.specs.Tests.{at, ones}
 use Rattle.bitmaps.specs.Bits.{byte-of, written}
 
--- the bytes that n bits take
+-- the bytes that n bits take (SPECIFICATION 8.4)
 abbrev pub bytes-for : ℕ → ℕ
 bytes-for n = (n + 7) / 8
 
--- the bytes d with the first of them those of the table X
+-- the bytes d with the first of them those of the table X (SPECIFICATION 8.4)
 unfoldable pub packed : ℕ → List Bool → List ℕ → List ℕ
 packed n X d = written (byte-of (at X)) (bytes-for n) d
 

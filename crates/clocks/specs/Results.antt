@@ -90,7 +90,7 @@ module _ (l r : Text) (a : Accepted l) (b : Accepted r) (f : ℕ → ℕ)
       → (search-run left right ≡ [] → ⊥) × (length (search-run left right) ≤ length w)
   text-search-at-least = search-at-least left-capping right-capping
 
-  -- code 19: a pair of configurations with a safe s and a t whose invariant is true
+  -- code 19: a pair of configurations is as SPECIFICATION 9.4 asks exactly when the pair of their state numbers is
   pub table-pair : (x : Left .State) (y : Right .State)
       → (Safe-left x × T (Right .holds y)) ↔ (T (safe left (left-capping .cap x)) × State right
       (right-capping .cap y))

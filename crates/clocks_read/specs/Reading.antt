@@ -1,4 +1,4 @@
--- Document 01's operation "read": what it gives for each text.
+-- The operation that reads a text: what it gives for each text (SPECIFICATION 12.1, 13.4).
 use mathlib.Core.List.{List}
 use Prim.Native.Nat.{ℕ}
 use Rattle.refusals.specs.declared.Refusal.{Refusal}
@@ -18,18 +18,18 @@ use Rattle.clocks_read.specs.declared.Reading.{Reading}
 unfoldable pub refused : Refusal → Reading
 refused f = record { answer = Refused f; text = no-text; states = 0 }
 
--- codes 9 to 11
+-- codes 9 to 11 (SPECIFICATION 6.5, 7.2)
 unfoldable pub judged-reading : Judged → Text → Reading
 judged-reading Clean t = record { answer = Accepted; text = t; states = state-count t }
 judged-reading (TooManyStates n) t = refused (too-many-states n)
 judged-reading (NoMove s c) t = refused (input-without-move s c)
 judged-reading (TwoEdges s c) t = refused (two-edges s c)
 
--- codes 1 to 8 come before them
+-- codes 1 to 8 come before them (SPECIFICATION 13.4)
 unfoldable pub parsed-reading : Verdict → Text → Reading
 parsed-reading verdict.Accepted t = judged-reading (judgement t) t
 parsed-reading (verdict.Refused f) t = refused f
 
--- reading: the answer, the record and the state count
+-- reading: the answer, the record and the state count (SPECIFICATION 12.1)
 unfoldable pub read-outcome : List ℕ → Reading
 read-outcome s = parsed-reading (read-text s .answer) (read-text s .text)

@@ -1,4 +1,5 @@
-// Document 01's operation "read": a text is judged by codes 1 to 11, and its record and state count are returned.
+// The operation that reads a text (SPECIFICATION 12.1): it is judged by codes 1 to 11, and its record and state count
+// are returned.
 use clocks::Judged;
 use clocks::Ranges;
 use limits::FEW_BYTES;
@@ -18,7 +19,7 @@ ghost use Rattle.clocks_read.specs.Loading.{Loading};
 ghost use Rattle.clocks_read.specs.Measured.{Measures, Well-measured, measured-loading};
 ghost use Rattle.limits.specs.Limits.{move-limit, keep-limit, few-moves, few-bytes};
 
-// What reading gives. A refused text has the fixed empty record and no states.
+// What reading gives (SPECIFICATION 12.1). A refused text has the fixed empty record and no states.
 pub struct Reading {
     pub answer: Verdict,
     pub text: Text,

@@ -1,5 +1,6 @@
--- What demand 1 asks of the outcomes of search, check and widest table, for two systems M, the left, and N, the right,
--- of one signature: the answers in document 01's order, each with what it means. Definitions only.
+-- What demand 1 (SPECIFICATION 17.1) asks of the outcomes of search, check and widest table, for two systems M, the
+-- left, and N, the right, of one signature: the answers in the order of judging, each with what it means
+-- (SPECIFICATION 13.1, 13.3, 13.5). Definitions only.
 use mathlib.Core.Path.{_≡_}
 use mathlib.Core.Logic.{_⊎_}
 use mathlib.Core.Bool.{Bool}
@@ -22,63 +23,63 @@ use Rattle.demands.specs.Words.{Consistent, Keep-written, Right-form, ra
 -- `states` and `right-states` are the numbers of states, `number` and `right-number` give a configuration's
 module _ {A : Signature} (M N : System A) (states right-states : ℕ) (number : M .State → ℕ)
     (right-number : N .State → ℕ) where
-  -- the answers of the search
+  -- the answers of the search (SPECIFICATION 12.4)
   pub data Search-answers (keep : List ℕ) (back line : ℕ) (run : List ℕ) (o : search.Outcome) : Type 1 where
-    -- 13 (bytes needed, 0): keep too short; everything lent is as it came
+    -- 13: keep has less than a bit for each left state; everything lent is as it came
     thirteen : length keep < bytes-for states
         → o ≡ record { answer = search-answer.Refused (keep-too-short (bytes-for states)); keep = keep; run = run }
         → Search-answers keep back line run o
-    -- 15 (entries needed, 0): back or line too short; everything lent is as it came
+    -- 15: back or line has fewer entries than there are pairs; everything lent is as it came
     fifteen : bytes-for states ≤ length keep
         → (back < states * right-states) ⊎ (line < states * right-states)
         → o ≡ record { answer = search-answer.Refused (queue-too-short (states * right-states)); keep = keep; run = run }
         → Search-answers keep back line run o
-    -- 17 (start, 0): left start not safe, so no implementation satisfies the left; the run is as it came
+    -- 17: no implementation satisfies the left, so its start is not safe (SPECIFICATION 8.3); the run is as it came
     seventeen : bytes-for states ≤ length keep → states * right-states ≤ back → states * right-states ≤ line
         → (Consistent M → ⊥)
         → o .answer ≡ search-answer.Refused (start-not-safe (number (M .start)))
         → o .run ≡ run
         → Keep-written M states number keep (o .keep)
         → Search-answers keep back line run o
-    -- 21 (n, 0): run shorter than n, the steps of a shortest departure; the run is as it came
+    -- 21: the run has no room for w, a shortest departure (SPECIFICATION 10.4), and is as it came
     twenty-one : bytes-for states ≤ length keep → states * right-states ≤ back → states * right-states ≤ line
         → Consistent M → (w : List ℕ) → length run < length w
         → ((S : M .State → Type 0) → Largest-safe-set M S → Shortest-departure M N S w)
         → o .answer ≡ search-answer.Refused (run-too-short (length w)) → o .run ≡ run
         → Keep-written M states number keep (o .keep)
         → Search-answers keep back line run o
-    -- n: demand 3 says what it means
+    -- n: demand 3 says what it means (Demands.antt)
     found : bytes-for states ≤ length keep → states * right-states ≤ back → states * right-states ≤ line
         → Consistent M → (n : ℕ) → o .answer ≡ search-answer.Found n → n ≤ length run
         → Search-answers keep back line run o
 
-  -- the answers of the check of the table `given`
+  -- the answers of the check of the table `given` (SPECIFICATION 12.5)
   module _ (keep given : List ℕ) where
-    -- the relation that the table denotes
+    -- the relation that the table denotes (SPECIFICATION 11.4)
     abbrev pub Given : M .State → N .State → Type 0
     Given = Denotes states right-states number right-number given
 
     pub data Check-answers (o : Checked) : Type 1 where
-      -- 13 (bytes needed, 0): keep too short; keep is as it came
+      -- 13: keep has less than a bit for each left state, and is as it came
       thirteen : length keep < bytes-for states
           → o ≡ record { answer = checked.Refused (keep-too-short (bytes-for states)); keep = keep }
           → Check-answers o
-      -- 16 (0, 0): given table's header or total length differs; keep is as it came
+      -- 16: the table does not have the right form (SPECIFICATION 11.1, 11.2); keep is as it came
       sixteen : bytes-for states ≤ length keep → (Right-form states right-states given → ⊥)
           → o ≡ record { answer = checked.Refused other-table; keep = keep }
           → Check-answers o
-      -- 17 (start, 0): left start not safe, so no implementation satisfies the left
+      -- 17: no implementation satisfies the left, so its start is not safe (SPECIFICATION 8.3)
       seventeen : bytes-for states ≤ length keep → Right-form states right-states given → (Consistent M → ⊥)
           → o .answer ≡ checked.Refused (start-not-safe (number (M .start)))
           → Keep-written M states number keep (o .keep)
           → Check-answers o
-      -- 18 (left start, right start): start pair not set
+      -- 18: the table does not have the pair of starts
       eighteen : bytes-for states ≤ length keep → Right-form states right-states given → Consistent M
           → (Given (M .start) (N .start) → ⊥)
           → o .answer ≡ checked.Refused (start-pair-not-set (number (M .start)) (right-number (N .start)))
           → Keep-written M states number keep (o .keep)
           → Check-answers o
-      -- 19 (s, t): pair with s not safe or t's invariant false, the lowest that fails; S: the left's safe states
+      -- 19: (x, y) is the lowest pair that fails, for its states (SPECIFICATION 11.5); S: the left's safe states
       nineteen : bytes-for states ≤ length keep → Right-form states right-states given → Consistent M
           → Given (M .start) (N .start)
           → (x : M .State) (y : N .State)
@@ -86,7 +87,7 @@ module _ {A : Signature} (M N : System A) (states right-states : ℕ) (number : 
           → o .answer ≡ checked.Refused (pair-not-allowed (number x) (right-number y))
           → Keep-written M states number keep (o .keep)
           → Check-answers o
-      -- 20 (step, s × W + t): pair breaks a rule, the lowest that fails; least step
+      -- 20: (x, y) is the lowest pair that fails, for a rule, and c the least step (SPECIFICATION 11.5)
       twenty : bytes-for states ≤ length keep → Right-form states right-states given → Consistent M
           → Given (M .start) (N .start)
           → (x : M .State) (y : N .State) (c : ℕ)
@@ -94,7 +95,7 @@ module _ {A : Signature} (M N : System A) (states right-states : ℕ) (number : 
           → o .answer ≡ checked.Refused (rule-broken right-states c (number x) (right-number y))
           → Keep-written M states number keep (o .keep)
           → Check-answers o
-      -- "An accepted check returns the number of pairs set, padding not counted": every pair passes
+      -- acceptance, with the number of pairs set: every pair passes (SPECIFICATION 11.5, 12.5)
       accepted : bytes-for states ≤ length keep → Right-form states right-states given → Consistent M
           → Given (M .start) (N .start)
           → ((S : M .State → Type 0) → Largest-safe-set M S → (x : M .State) (y : N .State) → Given x y
@@ -104,13 +105,13 @@ module _ {A : Signature} (M N : System A) (states right-states : ℕ) (number : 
           → Keep-written M states number keep (o .keep)
           → Check-answers o
 
-  -- the answers of making the widest table, where the table came as `given`
+  -- the answers of making the widest table (SPECIFICATION 12.6), where the table came as `given`
   pub data Widest-answers (keep given : List ℕ) (o : Widened) : Type 1 where
-    -- 13 (bytes needed, 0): keep too short; everything lent is as it came
+    -- 13: keep has less than a bit for each left state; everything lent is as it came
     thirteen : length keep < bytes-for states
         → o ≡ record { answer = made.Refused (keep-too-short (bytes-for states)); keep = keep; table = given }
         → Widest-answers keep given o
-    -- 14 (bytes needed, 0): table to write too short; everything lent is as it came
+    -- 14: the slice for the table is shorter than the table; everything lent is as it came
     fourteen : bytes-for states ≤ length keep → length given < table-bytes right-states states
         → o
         ≡ record {
@@ -119,13 +120,13 @@ module _ {A : Signature} (M N : System A) (states right-states : ℕ) (number : 
           table = given;
         }
         → Widest-answers keep given o
-    -- 17 (start, 0): left start not safe, so no implementation satisfies the left; the table is as it came
+    -- 17: no implementation satisfies the left, so its start is not safe (SPECIFICATION 8.3); the table is as it came
     seventeen : bytes-for states ≤ length keep → table-bytes right-states states ≤ length given
         → (Consistent M → ⊥)
         → o .answer ≡ made.Refused (start-not-safe (number (M .start))) → o .table ≡ given
         → Keep-written M states number keep (o .keep)
         → Widest-answers keep given o
-    -- the count and whether the start pair is one: demand 2 says what they mean
+    -- the count and whether the start pair is one: demand 2 says what they mean (Demands.antt)
     written : bytes-for states ≤ length keep → table-bytes right-states states ≤ length given
         → Consistent M
         → (n : ℕ) (start : Bool) → o .answer ≡ made.Made n start

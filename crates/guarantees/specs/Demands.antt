@@ -1,5 +1,6 @@
--- What is asked of the safe-state operation's own outcome, for an accepted text. Definitions only: the theorems are in
--- Guarantees.antt. What is asked of the operations on two texts is defined in crate demands.
+-- What is asked of the safe-state operation's own outcome, for an accepted text (SPECIFICATION 8.3, 8.4, 12.2).
+-- Definitions only: the theorems are in Guarantees.antt. What is asked of the operations on two texts is defined in
+-- crate demands.
 use mathlib.Core.Path.{_≡_}
 use mathlib.Core.Logic.{_↔_}
 use mathlib.Core.Bool.{Bool}
@@ -16,14 +17,14 @@ use Rattle.guarantees.specs.Texts.{Accepted-text, states, meaning, numbe
 
 -- What is asked of the outcome o, where keep came as `keep`.
 pub record Safe-demand (s : List ℕ) (a : Accepted-text s) (keep : List ℕ) (o : Outcome) : Type 1 where
-  -- "It gives the count and whether the start is safe."
+  -- the answer is a count and a truth value (SPECIFICATION 12.2)
   pub count : ℕ
   pub start : Bool
   pub answer : o .answer ≡ Found count start
-  -- the start is safe exactly when some implementation satisfies the text
+  -- the start is safe exactly when some implementation satisfies the text (SPECIFICATION 8.3)
   pub start-safe : (S : meaning s a .State → Type 0) → Largest-safe-set (meaning s a) S → T start
       ↔ S (meaning s a .start)
   pub start-means : T start ↔ Consistent (meaning s a)
-  -- "The safe-state operation writes one bit per state into the keep slice": the count is that of the bits set
+  -- keep holds the safe states, and the count is that of the bits set (SPECIFICATION 8.4, 12.2)
   pub kept : Keep-written (meaning s a) (states s) (number s a) keep (o .keep)
   pub count-is : count ≡ ones (table (states s) (bit-at (o .keep)))

@@ -1,9 +1,9 @@
--- THE GUARANTEES, to be read first. The demands as theorems about the operations' own outcomes (safe-outcome,
--- search-outcome, check-outcome, widest-outcome), which the contracts of the operations equate with what the code
--- answers and leaves in the lent slices. The words are defined in Texts.antt and, for systems, in crate systems,
--- Definitions.antt, and in crate demands, Words.antt; what each demand asks, clause by clause, is a record or a type of
--- cases in crate demands, Demands.antt and Answers.antt, and in Demands.antt here. The other files of this crate are
--- laws: the operations on two texts are instances of those on two systems.
+-- THE GUARANTEES, to be read first. The demands (SPECIFICATION 17.1 to 17.3) as theorems about the operations' own
+-- outcomes (safe-outcome, search-outcome, check-outcome, widest-outcome), which the contracts of the operations equate
+-- with what the code answers and leaves in the lent slices. The words are defined in Texts.antt and, for systems, in
+-- crate systems, Definitions.antt, and in crate demands, Words.antt; what each demand asks, clause by clause, is a
+-- record or a type of cases in crate demands, Demands.antt and Answers.antt, and in Demands.antt here. The other files
+-- of this crate are laws: the operations on two texts are instances of those on two systems.
 use mathlib.Core.Path.{_≡_, subst}
 use mathlib.Core.Logic.{_↔_}
 use mathlib.Core.Option.{none, some}
@@ -42,8 +42,8 @@ pub safe-states-given : (s : List ℕ) (a : Accepted-text s) (keep : List ℕ)
     → Safe-demand s a keep (safe-outcome s keep)
 safe-states-given = counted.safe-demand
 
--- DEMAND 1. An operation on two texts gives one of the codes 1 to 12 exactly unless both texts are accepted and have
--- equal channels; then everything lent is as it came.
+-- DEMAND 1 (SPECIFICATION 17.1). An operation on two texts gives one of the codes 1 to 12 exactly unless both texts are
+-- accepted and have equal channels; then everything lent is as it came.
 pub texts-judged : (left right : List ℕ) → (none ≡ two-judged left right)
     ↔ (Accepted-text left × Accepted-text right × Equal-channels left right)
 texts-judged left right = (
@@ -68,7 +68,7 @@ unfolding widest-outcome
 widest-judged left right keep table r e = judged-by-some (two-judged left right) _ _ r e
 
 module _ (left right : List ℕ) (a : Accepted-text left) (b : Accepted-text right) (e : Equal-channels left right) where
-  -- Else it gives the one of the later codes whose case applies, in document 01's order, or succeeds.
+  -- Else it gives the one of the later codes whose case applies, in the order of SPECIFICATION 13.3, or succeeds.
   pub demand-1-search : (keep : List ℕ) (back line : ℕ) (run : List ℕ)
       → Search-answers (meaning left a) (right-meaning left right b) (states left) (states right) (number left a)
       (right-number left right b) keep back line run (search-outcome left right keep back line run)
@@ -98,7 +98,7 @@ module _ (left right : List ℕ) (a : Accepted-text left) (b : Accepted-text rig
 
   -- With a consistent left and slices that are long enough:
   module _ (consistent : Consistent (meaning left a)) where
-    -- DEMAND 2, the check of a table with a right header and a right length.
+    -- DEMAND 2, the check of a table with a right header and a right length (SPECIFICATION 17.2).
     pub demand-2-check : (keep table : List ℕ) → Right-form (states left) (states right) table
         → Long-enough (check-refusal (check-outcome left right keep table .answer))
         → Check-demand (meaning left a) (right-meaning left right b) (states left) (states right) (number left a)
@@ -111,7 +111,7 @@ module _ (left right : List ℕ) (a : Accepted-text left) (b : Accepted-text rig
         (form-sizes left right a b e (λ n w. Right-form n w table) form)
         (subst (λ (o : Checked). Long-enough (check-refusal (o .answer))) (check-is left right a b e keep table) long))
 
-    -- DEMAND 2, the widest table.
+    -- DEMAND 2, the widest table (SPECIFICATION 17.2).
     pub demand-2-widest : (keep table : List ℕ)
         → Long-enough (widest-refusal (widest-outcome left right keep table .answer))
         → Widest-demand (meaning left a) (right-meaning left right b) (states left) (states right) (number left a)
@@ -124,7 +124,7 @@ module _ (left right : List ℕ) (a : Accepted-text left) (b : Accepted-text rig
         (subst (λ (o : Widened). Long-enough (widest-refusal (o .answer))) (widest-is left right a b e keep table)
         long))
 
-    -- DEMAND 3, the search.
+    -- DEMAND 3, the search (SPECIFICATION 17.3).
     pub demand-3 : (keep : List ℕ) (back line : ℕ) (run : List ℕ)
         → Long-enough (search-refusal (search-outcome left right keep back line run .answer))
         → Search-demand (meaning left a) (right-meaning left right b) (states left) (states right) (number left a)

@@ -1,5 +1,5 @@
--- The words of the demands over the bytes of texts: the systems that texts mean, and the numbers of their states.
--- Definitions only. What is asked of two systems is defined in crate demands.
+-- The words of the demands over the bytes of texts: the systems that texts mean, and the numbers of their states
+-- (SPECIFICATION 6.5, 6.6, 7.4, 9.1, 9.2). Definitions only. What is asked of two systems is defined in crate demands.
 use mathlib.Core.Path.{_≡_}
 use mathlib.Core.Option.{Option, none, some}
 use mathlib.Core.List.{List}
@@ -17,24 +17,24 @@ use Rattle.two_texts.specs.Two.{text-of, step-of}
 use Rattle.safe_states.specs.declared.SafeAnswer.{SafeAnswer}
 use Rattle.safe_states.specs.declared.SafeAnswer.the-variants.{Found, Refused}
 
--- "A text is accepted when reading it by these papers gives no code."
+-- an accepted text: reading gives no refusal (SPECIFICATION 7.4)
 abbrev pub Accepted-text : List ℕ → Type 0
 Accepted-text s = read-outcome s .answer ≡ verdict.Accepted
 
--- the number of its states, as reading returns it
+-- the number of its states, as reading returns it (SPECIFICATION 12.1)
 abbrev pub states : List ℕ → ℕ
 states s = read-outcome s .states
 
--- its system: "The definitions use uncapped clocks"
+-- its system, clocks uncapped: this is what it means (SPECIFICATION 6.6)
 abbrev pub meaning : (s : List ℕ) → Accepted-text s → System (signature (text-of s))
 meaning s a = uncapped (text-of s) (read-accepted s a .accepted .formed)
 
--- "state number" of a configuration, that is of a location and values of the clocks
+-- the state number of a configuration, that is of a location and values of the clocks (SPECIFICATION 6.5)
 abbrev pub number : (s : List ℕ) (a : Accepted-text s) → meaning s a .State → ℕ
 unfolding uncapped
 number s a x = state (ranges (text-of s)) x
 
--- the right's system, its steps by the left's numbers: "Channels pair up by name"
+-- the right's system, its steps by the left's numbers (SPECIFICATION 9.2)
 abbrev pub right-meaning : (left right : List ℕ) → Accepted-text right → System (signature (text-of left))
 right-meaning left right b = renumbered-system (step-of left right) (meaning right b)
 
@@ -42,7 +42,7 @@ abbrev pub right-number : (left right : List ℕ) (b : Accepted-text right) → 
 unfolding uncapped renumbered-system
 right-number left right b y = state (ranges (text-of right)) y
 
--- "Two texts have equal channels when each channel of either is in the other with the same direction."
+-- two texts with equal channels (SPECIFICATION 9.1)
 abbrev pub Equal-channels : List ℕ → List ℕ → Type 0
 Equal-channels left right = channels.Equal-channels left (text-of left) right (text-of right)
 

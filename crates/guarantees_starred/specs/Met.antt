@@ -1,5 +1,5 @@
--- That the hypotheses of the demands can be met: by document 01's
--- Post against itself, with slices that are long enough.
+-- That the hypotheses of the demands (SPECIFICATION 17.2, 17.3) can be met: by Post (SPECIFICATION 16.1) against
+-- itself, with slices that are long enough.
 use mathlib.Core.Path.{_≡_, sym, ap, subst, _∙_}
 use mathlib.Core.Bool.{Bool, true}
 use mathlib.Core.Option.{Option, none}

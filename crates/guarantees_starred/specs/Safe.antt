@@ -41,7 +41,7 @@ safe-found s t n K x keep h =
         ≡ found-outcome t keep
     long t keep l = rw (l, kept-outcome)
 
--- "Post has 10 states, 9 safe"; "Hush 5 safe"
+-- the safe states of Post and of Hush (SPECIFICATION 16.2, 16.3)
 pub post-counted : (keep : List ℕ) → 2 ≤ length keep → safe-outcome post keep .answer ≡ Found 9 true
 unfolding ones
 post-counted = safe-found post post-record 10 post-keep post-known

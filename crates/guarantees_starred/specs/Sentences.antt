@@ -1,4 +1,5 @@
--- Document 01's starred sentences about the five texts, one field each. Definitions only: Starred.antt proves them.
+-- The starred posts, that is the examples that are proved: what SPECIFICATION 16.2 to 16.6 say of the five texts.
+-- Definitions only: Starred.antt proves them (SPECIFICATION 17.4).
 use mathlib.Core.Path.{_≡_}
 use mathlib.Core.Bool.{true, false}
 use mathlib.Core.List.{List, [], _∷_, _++_}
@@ -18,6 +19,7 @@ use Rattle.safe_states.specs.Outcome.{safe-outcome}
 use Rattle.demands.specs.Words.{Right-form}
 
 -- the slices of a search over n left and m right states are long enough, and the run for so many steps
+-- (SPECIFICATION 8.4, 12.4)
 pub record Room (n m steps : ℕ) (keep : List ℕ) (back line : ℕ) (run : List ℕ) : Type 0 where
   pub keep-room : bytes-for n ≤ length keep
   pub back-room : n * m ≤ back
@@ -31,19 +33,19 @@ Searches s u n m k w = (keep : List ℕ) (back line : ℕ) (run : List ℕ) → 
     → (search-outcome s u keep back line run .answer ≡ Found k)
     × (search-outcome s u keep back line run .run ≡ w ++ drop k run)
 
--- "raster rows 80 00, 40 00, 20 00, 10 00, 00 00, then five of 07 C0"
+-- the raster of the widest table of Post against Post (SPECIFICATION 16.4)
 abbrev pub widest-raster : List ℕ
 widest-raster =
     0x80 ∷ 0x00 ∷ 0x40 ∷ 0x00 ∷ 0x20 ∷ 0x00 ∷ 0x10 ∷ 0x00 ∷ 0x00 ∷ 0x00
     ∷ 0x07 ∷ 0xC0 ∷ 0x07 ∷ 0xC0 ∷ 0x07 ∷ 0xC0 ∷ 0x07 ∷ 0xC0 ∷ 0x07 ∷ 0xC0 ∷ []
 
--- "the 9 safe diagonal pairs"
+-- the safe states of Post, each related to itself alone (SPECIFICATION 16.4)
 abbrev pub diagonal-raster : List ℕ
 diagonal-raster =
     0x80 ∷ 0x00 ∷ 0x40 ∷ 0x00 ∷ 0x20 ∷ 0x00 ∷ 0x10 ∷ 0x00 ∷ 0x00 ∷ 0x00
     ∷ 0x04 ∷ 0x00 ∷ 0x02 ∷ 0x00 ∷ 0x01 ∷ 0x00 ∷ 0x00 ∷ 0x80 ∷ 0x00 ∷ 0x40 ∷ []
 
--- "only the start pair"
+-- no pair but that of the starts (SPECIFICATION 16.4)
 abbrev pub start-raster : List ℕ
 start-raster =
     0x80 ∷ 0x00 ∷ 0x00 ∷ 0x00 ∷ 0x00 ∷ 0x00 ∷ 0x00 ∷ 0x00 ∷ 0x00 ∷ 0x00
@@ -57,14 +59,15 @@ ten-by-ten r = ascii "P4\n10 10\n" ++ r
 abbrev pub hush-kept : List ℕ → List ℕ
 hush-kept keep = 0x07 ∷ 0xC0 ∷ drop 2 keep
 
--- the starred sentences of document 01, one field each
+-- the examples, one field each
 pub record Starred : Type 0 where
-  -- "Post has 10 states, 9 safe"; its start is one
+  -- Post: its states, and how many are safe, the start among them (SPECIFICATION 16.2)
   pub post-states : read-outcome post .states ≡ 10
   pub post-safe : (keep : List ℕ) → 2 ≤ length keep → safe-outcome post keep .answer ≡ counted.Found 9 true
-  -- "Hush 5 safe, 17 as left"; its start is not safe
+  -- Hush: how many states are safe, the start not among them (SPECIFICATION 16.3)
   pub hush-safe : (keep : List ℕ) → 2 ≤ length keep → safe-outcome hush keep .answer ≡ counted.Found 5 false
-  -- 17 as left of all three operations: keep is written, the run and the table are as they came
+  -- 17 for it as the left of all three operations: keep is written, the run and the table are as they came
+  -- (SPECIFICATION 13.5, 16.3)
   pub hush-search : (keep : List ℕ) (back line : ℕ) (run : List ℕ) → Room 10 10 0 keep back line run
       → search-outcome hush post keep back line run
       ≡ record { answer = Refused (record { code = 17; file = 1; p = 0; q = 0 }); keep = hush-kept keep; run = run }
@@ -78,26 +81,26 @@ pub record Starred : Type 0 where
         keep = hush-kept keep;
         table = table;
       }
-  -- "Post against Post n = 0"
+  -- Post against Post: no departure (SPECIFICATION 16.4)
   pub post-post : Searches post post 10 10 0 []
-  -- "its widest table, 29 pairs in 29 bytes, raster rows 80 00, 40 00, 20 00, 10 00, 00 00, then five of 07 C0"
+  -- its widest table, count and bytes (SPECIFICATION 16.4)
   pub post-widest : (keep table : List ℕ) → 2 ≤ length keep → 29 ≤ length table
       → (widest-outcome post post keep table .answer ≡ made.Made 29 true)
       × (widest-outcome post post keep table .table ≡ ten-by-ten widest-raster ++ drop 29 table)
-  -- "the 9 safe diagonal pairs are accepted"
+  -- the check of the diagonal table: accepted, with its count (SPECIFICATION 16.4)
   pub diagonal : (keep : List ℕ) → 2 ≤ length keep
       → check-outcome post post keep (ten-by-ten diagonal-raster) .answer ≡ checked.Accepted 9
-  -- "only the start pair: 20 (0, 0)"
+  -- the check of the table with the starts alone: the tick breaks a rule (SPECIFICATION 16.4)
   pub start-only : (keep : List ℕ) → 2 ≤ length keep
       → check-outcome post post keep (ten-by-ten start-raster) .answer
       ≡ checked.Refused (record { code = 20; file = 0; p = 0; q = 0 })
-  -- "Rearm's widest against Post has 25 pairs without the start"
+  -- Rearm's widest table against Post (SPECIFICATION 16.5)
   pub rearm-widest : (keep table : List ℕ) → 2 ≤ length keep → 29 ≤ length table
       → widest-outcome rearm post keep table .answer ≡ made.Made 25 false
-  -- "Early against Post n = 3", "Idle against Post n = 4", "Post against Idle n = 4", "Post against Hush n = 4"
+  -- the other departures (SPECIFICATION 16.6), with their steps
   pub early-post : Searches early post 8 10 3 (tick ∷ tick ∷ 3 ∷ [])
   pub idle-post : Searches idle post 4 10 4 (tick ∷ tick ∷ tick ∷ tick ∷ [])
   pub post-idle : Searches post idle 10 4 4 (tick ∷ tick ∷ tick ∷ 3 ∷ [])
   pub post-hush : Searches post hush 10 10 4 (tick ∷ tick ∷ tick ∷ 3 ∷ [])
-  -- the program's example, "NO 5": tick, tick, tick, spike?, tick
+  -- the departure of Rearm from Post that the program prints (SPECIFICATION 16.5)
   pub rearm-post : Searches rearm post 10 10 5 (tick ∷ tick ∷ tick ∷ 2 ∷ tick ∷ [])

@@ -1,4 +1,4 @@
--- Document 01's starred posts, settled together by one theorem about the definitions, from the texts' bytes.
+-- The starred posts in one theorem about the definitions, from the texts' bytes (SPECIFICATION 17.4).
 use mathlib.Core.Path.{_≡_, refl, ap, _∙_}
 use mathlib.Core.Bool.{true, false}
 use mathlib.Core.List.{List, [], _∷_, _++_}

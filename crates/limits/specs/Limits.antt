@@ -1,5 +1,4 @@
--- Document 01: "Limits: text 32,768 bytes; name 31 bytes; 16 channels; 3 clocks; 32 locations; 128 edges; 4
--- comparisons in a guard or invariant; constant 1,000; 4,096 states." And what follows from them.
+-- The limits of a text, a definition a row of the table in SPECIFICATION 4.3, and what follows from them.
 use Prim.Native.Nat.{ℕ, _+_, _*_, _/_}
 
 abbrev pub largest-text : ℕ
@@ -29,7 +28,7 @@ largest-constant = 1000
 abbrev pub state-limit : ℕ
 state-limit = 4096
 
--- the steps of a text: the tick and its channels
+-- the steps of a text: the tick and its channels (SPECIFICATION 6.8)
 abbrev pub step-limit : ℕ
 step-limit = channel-limit + 1
 
@@ -37,15 +36,15 @@ step-limit = channel-limit + 1
 abbrev pub move-limit : ℕ
 move-limit = state-limit * step-limit
 
--- the bytes that hold a bit for each state
+-- the bytes that hold a bit for each state (SPECIFICATION 8.4)
 abbrev pub keep-limit : ℕ
 keep-limit = (state-limit + 7) / 8
 
--- the pairs of a left and a right state
+-- the pairs of a left and a right state: entries of back and of line (SPECIFICATION 12.4)
 abbrev pub pair-limit : ℕ
 pair-limit = state-limit * state-limit
 
--- so many states are few: their slices are small
+-- so many states are few: their slices are small, which changes no answer
 abbrev pub few-states : ℕ
 few-states = 256
 

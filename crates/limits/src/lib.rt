@@ -1,4 +1,4 @@
-// The limits of document 01, and what follows from them. Every other crate takes a limit from here.
+// The limits of a text (SPECIFICATION 4.3), and what follows from them. Every other crate takes a limit from here.
 
 // Bytes of a text, and of a name.
 pub const LARGEST_TEXT: usize = 32768;

@@ -1,7 +1,7 @@
-// Document 01's five operations, for all bytes, contents and lengths: code and promise of the whole tool on one page. Each
-// parses and measures what it is given, makes slices that have room for it, small ones where small ones do, and hands
-// them to the layers below. There is no heap, and no way to hand a function slices that are made elsewhere by a choice:
-// so the choice stands in each of them.
+// The five operations (SPECIFICATION 12.1 to 12.6), for all bytes, contents and lengths: code and promise of the whole
+// tool on one page. Each parses and measures what it is given, makes slices that have room for it, small ones where
+// small ones do, and hands them to the layers below. There is no heap, and no way to hand a function slices that are
+// made elsewhere by a choice: so the choice stands in each of them.
 use clocks_read::Reading;
 use limits::FEW_STATES;
 use safe_states::SafeAnswer;
@@ -16,7 +16,7 @@ ghost use Rattle.search.specs.Outcome.{Outcome, Scratch};
 ghost use Rattle.tables.specs.Outcome.{Checked, Widened};
 ghost use Rattle.two_operations.specs.Outcome.{search-outcome, check-outcome, widest-outcome};
 
-// Reads a text: its record and state count, or codes 1 to 11.
+// Reads a text: its record and state count, or codes 1 to 11 (SPECIFICATION 12.1).
 pub fn read(text: &[u8]) -> Reading
     ensures { λ r. ⌜ r ≡ read-outcome (now (text .entry)) ⌝ }
 {
@@ -31,8 +31,8 @@ pub fn read(text: &[u8]) -> Reading
     clocks_read::judge(parsed, &mut moves, &mut holds)
 }
 
-// Writes the bits of the safe states into keep, state 0 in the high bit of byte 0; their count and whether the start is
-// one, or codes 1 to 11 and 13.
+// Writes the bits of the safe states into keep (SPECIFICATION 8.4); how many there are and whether the start is one, or
+// codes 1 to 11 and 13 (SPECIFICATION 12.2).
 pub fn safe_states(text: &[u8], keep: &mut [u8]) -> SafeAnswer
     ensures { λ r. ⌜ _≡_ {A = safe.Outcome} (record { answer = r; keep = now (keep .exit) })
         (safe.safe-outcome (now (text .entry)) (now (keep .entry))) ⌝ }
@@ -49,7 +49,7 @@ pub fn safe_states(text: &[u8], keep: &mut [u8]) -> SafeAnswer
 }
 
 // Looks for a shortest departure of the left text from the right; keep gets the left's safe states, back and line are
-// scratch, run gets the steps. Codes 1 to 13, 15, 17 and 21.
+// scratch, run gets the steps. Codes 1 to 13, 15, 17 and 21 (SPECIFICATION 12.4).
 pub fn search(
     left: &[u8],
     right: &[u8],
@@ -102,7 +102,7 @@ pub fn search(
     )
 }
 
-// Checks a given table of two texts; keep gets the left's safe states. Codes 1 to 13 and 16 to 20.
+// Checks a given table of two texts; keep gets the left's safe states. Codes 1 to 13 and 16 to 20 (SPECIFICATION 12.5).
 pub fn check(left: &[u8], right: &[u8], keep: &mut [u8], table: &[u8]) -> CheckAnswer
     ensures { λ r. ⌜ _≡_ {A = Checked} (record { answer = r; keep = now (keep .exit) })
         (check-outcome (now (left .entry)) (now (right .entry)) (now (keep .entry)) (now (table .entry))) ⌝ }
@@ -142,7 +142,7 @@ pub fn check(left: &[u8], right: &[u8], keep: &mut [u8], table: &[u8]) -> CheckA
     )
 }
 
-// Makes the widest table of two texts; keep gets the left's safe states. Codes 1 to 14 and 17.
+// Makes the widest table of two texts; keep gets the left's safe states. Codes 1 to 14 and 17 (SPECIFICATION 12.6).
 pub fn widest(left: &[u8], right: &[u8], keep: &mut [u8], table: &mut [u8]) -> WidestAnswer
     ensures { λ r. ⌜ _≡_ {A = Widened} (record { answer = r; keep = now (keep .exit); table = now (table .exit) })
         (widest-outcome (now (left .entry)) (now (right .entry)) (now (keep .entry)) (now (table .entry))) ⌝ }

@@ -1,4 +1,4 @@
--- Document 01: "Channels pair up by name", and code 12.
+-- The channels of two texts: which of them belong together, and code 12 (SPECIFICATION 9.1, 9.2).
 use mathlib.Core.Path.{_≡_}
 use mathlib.Core.Bool.{Bool, false, cond, not, _&&_}
 use mathlib.Core.List.{List}
@@ -22,7 +22,7 @@ pub record Well-named (s : List ℕ) (t : Text) : Type 0 where
   pub within : Names-within s t
   pub differ : Names-differ s t
 
--- the numbers of the channels of a text, from 1
+-- the numbers of the channels of a text, from 1 (SPECIFICATION 4.4)
 pub record Channel (t : Text) (c : ℕ) : Type 0 where
   pub from-one : 0 < c
   pub declared : c ≤ t .«channel_count»
@@ -31,18 +31,18 @@ pub record Channel (t : Text) (c : ℕ) : Type 0 where
 abbrev pub name-of : Text → ℕ → Name
 name-of t c = channel-name t (c - 1)
 
--- the bytes of a name of the text s
+-- the bytes of a name of the text s (SPECIFICATION 5.2)
 abbrev pub spelling : List ℕ → Name → List ℕ
 spelling s n = take (n .len) (drop (n .place) s)
 
--- channel c of the one text is in the other with the same direction
+-- the other text has a channel with the name and the direction of channel c of the one (SPECIFICATION 9.1)
 pub record Shared (s : List ℕ) (l : Text) (u : List ℕ) (r : Text) (c : ℕ) : Type 0 where
   pub other : ℕ
   pub there : Channel r other
   pub spelled : spelling s (name-of l c) ≡ spelling u (name-of r other)
   pub direction : input l c ≡ input r other
 
--- "Two texts have equal channels when each channel of either is in the other with the same direction."
+-- equal channels: all of both texts are shared (SPECIFICATION 9.1)
 pub record Equal-channels (s : List ℕ) (l : Text) (u : List ℕ) (r : Text) : Type 0 where
   pub left : (c : ℕ) → Channel l c → Shared s l u r c
   pub right : (d : ℕ) → Channel r d → Shared u r s l d
@@ -64,7 +64,7 @@ lowest p n = first-from p 1 n
 unfoldable pub partner : List ℕ → Name → List ℕ → Text → ℕ
 partner s m u r = lowest (λ d. alike s m u (name-of r d)) (r .«channel_count»)
 
--- both are inputs, or both are not
+-- both are inputs, or both are not: an unused channel is an output (SPECIFICATION 9.1)
 unfoldable pub agree : Bool → Bool → Bool
 agree a b = cond a b (not b)
 
@@ -74,11 +74,11 @@ matched s l u r c =
     let d = partner s (name-of l c) u r in
     cond (eqb d 0) false (agree (input l c) (input r d))
 
--- the lowest channel that the other text lacks or uses with the other direction, 0 if there is none
+-- the lowest channel without a match in the other text, 0 if there is none (SPECIFICATION 9.1)
 unfoldable pub first-unmatched : List ℕ → Text → List ℕ → Text → ℕ
 first-unmatched s l u r = lowest (λ c. not (matched s l u r c)) (l .«channel_count»)
 
--- code 12: the left file first, then the right
+-- code 12: the left file first, then the right (SPECIFICATION 9.1, 13.2)
 unfoldable pub verdict : ℕ → ℕ → Matched
 verdict c d =
     cond (eqb c 0)
@@ -88,8 +88,8 @@ verdict c d =
 unfoldable pub unmatched : List ℕ → Text → List ℕ → Text → Matched
 unmatched s l u r = verdict (first-unmatched s l u r) (first-unmatched u r s l)
 
--- the right's number of the left's step c: the tick is the tick, a
--- channel its partner; 0 where the left has no such step
+-- the right's number of the left's step c: the tick is the tick, a channel its partner; 0 where the left has no such
+-- step (SPECIFICATION 9.2)
 unfoldable pub right-step : List ℕ → Text → List ℕ → Text → ℕ → ℕ
 right-step s l u r c = cond (ltb 0 c && leb c (l .«channel_count»)) (partner s (name-of l c) u r) 0
 

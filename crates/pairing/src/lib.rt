@@ -16,7 +16,7 @@ use reader_record::Text;
 use refusals::Refusal;
 ghost use Rattle.limits.specs.Limits.{channel-limit, step-limit};
 
-// Whether the channels are equal, or code 12.
+// Whether the channels are equal, or code 12 (SPECIFICATION 9.1).
 pub enum Matched {
     Equal,
     Unmatched(Refusal),
@@ -93,7 +93,7 @@ fn is_matched(s: &[u8], l: Channels, u: &[u8], r: Channels, c: usize) -> bool
     do_agree(a, b)
 }
 
-// The lowest channel of the text l that the text r lacks or uses with the other direction; 0 if there is none.
+// The lowest channel of the text l without a match in the text r; 0 if there is none.
 fn unmatched_of(s: &[u8], l: Channels, u: &[u8], r: Channels) -> usize
     requires { ⌜ (l .count ≤ channel-limit) × (r .count ≤ channel-limit) ⌝ }
     ensures { λ c. ⌜ c ≡ first-unmatched (now (s .entry)) (only l) (now (u .entry)) (only r) ⌝ }

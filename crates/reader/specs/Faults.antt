@@ -1,4 +1,4 @@
--- Document 01, "What a refused call returns": the code, the file mark and the values for each reason to refuse a text.
+-- The refusal for each reason to refuse a text, by codes 1 to 8 (SPECIFICATION 4.5, 13.1).
 use Rattle.refusals.specs.declared.Refusal.{Refusal}
 use Rattle.refusals.specs.Refusals.{text-too-long, misfit, name-too-long, declared-before, unknown-name, constant-too-large, too-many-items, other-mark}
 use Rattle.reader_parts.specs.declared.Fault.{Fault}

@@ -1,4 +1,5 @@
--- The contract text: "A subset of UPPAAL's published XTA text, in this order". A definition a line of document 01.
+-- Reading a text: a definition for each part of the grammar's `text`, in its order (SPECIFICATION 3.1), and the answer,
+-- the record (SPECIFICATION 5.1) or one of the codes 1 to 8 (SPECIFICATION 4.5, 4.6).
 use mathlib.Core.Bool.{false, cond}
 use mathlib.Core.List.{List}
 use Prim.Native.Nat.{ℕ}
@@ -28,19 +29,19 @@ use Rattle.limits.specs.Limits.{location-limit, largest-text}
 unfoldable pub start : State
 start = record { status = status.At 0; names = replicate name-slots no-name; text = no-text }
 
--- an optional list: the word that opens it, then its items and `;`
+-- a list that may be left out: the word that opens it, then its items
 unfoldable pub list-part : ℕ → Item → List ℕ → State → State
 list-part word k s r =
     let given = items k s (next-token s r word) in
     cond (ahead s (r .status) word) given r
 
--- "optional `broadcast chan` names `;`"
+-- the channels, where there are any (SPECIFICATION 3.1)
 unfoldable pub channel-part : List ℕ → State → State
 channel-part s r =
     let given = items Channel s (next-token s (next-token s r kinds.broadcast) kinds.chan) in
     cond (ahead s (r .status) kinds.broadcast) given r
 
--- "`process` name `( ) {`"
+-- the process, whose name is declared (SPECIFICATION 3.1, 4.1)
 unfoldable pub process-part : List ℕ → State → State
 process-part s r =
     let a = next-token s r kinds.process in
@@ -48,15 +49,15 @@ process-part s r =
     let b : State = record { status = d .status; names = d .names; text = a .text } in
     next-token s (next-token s (next-token s b kinds.left-paren) kinds.right-paren) kinds.opens
 
--- "optional `clock` names `;`"
+-- the clocks, where there are any (SPECIFICATION 3.1)
 abbrev pub clock-part : List ℕ → State → State
 clock-part = list-part kinds.clock Clock
 
--- "`state` locations `;`"
+-- the locations (SPECIFICATION 3.1)
 unfoldable pub location-part : List ℕ → State → State
 location-part s r = items Location s (next-token s r kinds.state)
 
--- "`init` name `;`": the name of a location
+-- the start, by the name of a location (SPECIFICATION 3.1, 3.5)
 unfoldable pub init-part : List ℕ → State → State
 init-part s r =
     let a = next-token s r kinds.init in
@@ -64,18 +65,18 @@ init-part s r =
     let b : State = record { status = u .status; names = a .names; text = with-init (a .text) (u .number) } in
     next-token s b kinds.semicolon
 
--- "optional `trans` edges `;`"
+-- the edges, where there are any (SPECIFICATION 3.1)
 abbrev pub edge-part : List ℕ → State → State
 edge-part = list-part kinds.trans Edge
 
--- "then `} system` name `;`": the process's name; after it the text ends
+-- the process's name once more (SPECIFICATION 3.5), after which the text ends (SPECIFICATION 3.3)
 unfoldable pub end-part : List ℕ → State → State
 end-part s r =
     let a = next-token s (next-token s r kinds.closes) kinds.system in
     let u = use-name s (a .status) (a .names) process-slot process-limit false in
     next-token s (next-token s (stopped a (u .status)) kinds.semicolon) kinds.end
 
--- the parts in their order
+-- the parts in their order (SPECIFICATION 3.1)
 unfoldable pub read-whole : List ℕ → State
 read-whole s =
     end-part s (edge-part s (init-part s (location-part s (clock-part s (process-part s (channel-part s start))))))
@@ -88,7 +89,7 @@ unfoldable pub answer : Status → Text → Parsed
 answer (status.At p) t = record { answer = Accepted; text = t }
 answer (status.Refused f) t = refused f
 
--- "Code 1 comes before all reading"
+-- the answer to a text: code 1 is judged first (SPECIFICATION 4.5)
 unfoldable pub read-text : List ℕ → Parsed
 read-text s =
     let r = read-whole s in

@@ -1,4 +1,5 @@
-// Reads a contract text into its record, or refuses it with one of document 01's codes 1 to 8.
+// Reads a contract text into its record (SPECIFICATION 5.1), or refuses it with one of the codes 1 to 8
+// (SPECIFICATION 4.5).
 ghost use mathlib.Core.Path.{_≡_};
 ghost use mathlib.Core.Bool.{false};
 ghost use Prim.Native.Nat.{_≤_, _<_};
@@ -64,7 +65,7 @@ fn list_part(s: &[u8], r: HeadRead, word: usize, opened: Status, k: Named) -> He
     r
 }
 
-// Optional `broadcast chan` names `;`.
+// The channels, where there are any (SPECIFICATION 3.1).
 fn channel_part(s: &[u8], r: HeadRead) -> HeadRead
     requires { ⌜ length (now s) ≤ largest-text ⌝ }
     ensures { λ q. ⌜ Reads-head (channel-part (now (s .entry))) r q ⌝ }
@@ -75,7 +76,7 @@ fn channel_part(s: &[u8], r: HeadRead) -> HeadRead
     list_part(s, r, reader_tokens::BROADCAST, b, Named::Channel)
 }
 
-// `process` name `( ) {`.
+// The process and its name (SPECIFICATION 3.1).
 fn process_part(s: &[u8], st: Status, names: [Name; NAME_SLOTS]) -> Declaration
     requires { ⌜ length (now s) ≤ largest-text ⌝ }
     ensures { λ d. ⌜ Reads-any (process-part (now (s .entry))) (state-of st names) (state-of (d .status) (d .names)) ⌝ }
@@ -95,7 +96,7 @@ fn process_part(s: &[u8], st: Status, names: [Name; NAME_SLOTS]) -> Declaration
     }
 }
 
-// Optional `clock` names `;`.
+// The clocks, where there are any (SPECIFICATION 3.1).
 fn clock_part(s: &[u8], r: HeadRead) -> HeadRead
     requires { ⌜ length (now s) ≤ largest-text ⌝ }
     ensures { λ q. ⌜ Reads-head (clock-part (now (s .entry))) r q ⌝ }
@@ -105,7 +106,7 @@ fn clock_part(s: &[u8], r: HeadRead) -> HeadRead
     list_part(s, r, reader_tokens::CLOCK, a, Named::Clock)
 }
 
-// `state` locations `;`.
+// The locations (SPECIFICATION 3.1).
 fn location_part(s: &[u8], r: HeadRead) -> HeadRead
     requires { ⌜ length (now s) ≤ largest-text ⌝ }
     ensures { λ q. ⌜ Reads-head (location-part (now (s .entry))) r q ⌝ }
@@ -137,7 +138,7 @@ fn read_head(s: &[u8]) -> HeadRead
     location_part(s, e)
 }
 
-// `init` name `;`.
+// The start (SPECIFICATION 3.1).
 fn init_part(s: &[u8], st: Status, names: [Name; NAME_SLOTS]) -> Use
     requires { ⌜ length (now s) ≤ largest-text ⌝ }
     ensures { λ u. ⌜ Reads-any (init-part (now (s .entry))) (state-of st names) (started names u) ⌝ }
@@ -153,7 +154,7 @@ fn init_part(s: &[u8], st: Status, names: [Name; NAME_SLOTS]) -> Use
     }
 }
 
-// Optional `trans` edges `;`.
+// The edges, where there are any (SPECIFICATION 3.1).
 fn edge_part(
     s: &[u8],
     st: Status,
@@ -170,7 +171,7 @@ fn edge_part(
     reader_lists::no_edges(st, channels)
 }
 
-// `} system` name `;` and the end of the text.
+// The name of the process again, and the end of the text (SPECIFICATION 3.1, 3.3).
 fn end_part(s: &[u8], st: Status, names: [Name; NAME_SLOTS]) -> Status
     requires { ⌜ length (now s) ≤ largest-text ⌝ }
     ensures { λ r. ⌜ Reads-any (end-part (now (s .entry))) (state-of st names) (state-of r names) ⌝ }
@@ -183,7 +184,7 @@ fn end_part(s: &[u8], st: Status, names: [Name; NAME_SLOTS]) -> Status
     reader_parts::take(s, d, reader_tokens::END)
 }
 
-// Document 01's refusal for each reason to refuse a text.
+// The refusal for each reason to refuse a text (SPECIFICATION 13.1).
 fn refusal_of(f: Fault) -> Refusal
     ensures { λ r. ⌜ r ≡ refusal-of f ⌝ }
 {
@@ -248,7 +249,8 @@ fn read_whole(s: &[u8]) -> Parsed
     }
 }
 
-// The record of the text, or its refusal. Codes 9 to 11 are judged by the crates above, which know states and moves.
+// The record of the text, or its refusal: the operation read (SPECIFICATION 12.1) as far as code 8. Codes 9 to 11 are
+// judged by the crates above, which know states and moves.
 pub fn parse(text: &[u8]) -> Parsed
     ensures { λ r. ⌜ r ≡ read-text (now (text .entry)) ⌝ }
 {

@@ -1,4 +1,4 @@
--- Guards and invariants: "Comparisons are joined by `&&`; each is a clock, one of `<=` `>=` `==`, and a numeral."
+-- Guards and invariants (SPECIFICATION 3.1, 3.2, 3.4), with limits on comparisons and constants (SPECIFICATION 4.3).
 use mathlib.Core.Bool.{Bool, true, false, cond}
 use mathlib.Core.List.{List}
 use Prim.Native.Nat.{ℕ, zero, suc, _+_}
@@ -29,7 +29,7 @@ use Rattle.limits.specs.Limits.{clock-limit, comparison-limit, largest-constant
 abbrev pub no-amount : Fault → Amount
 no-amount f = record { status = Refused f; value = 0 }
 
--- a token that has to be a numeral, "constant 1,000" at most; its value counts, however many digits it has
+-- a token that has to be a numeral: else code 2, and 6 where its value is over the limit (SPECIFICATION 4.2, 4.5)
 unfoldable pub constant-of : List ℕ → Token → Amount
 constant-of s t =
     let v = numeral-value 0 (drop (t .place) s) in
@@ -47,7 +47,7 @@ constant s (At p) = constant-of s (token-at s p)
 abbrev pub no-sign : Fault → SignRead
 no-sign f = record { status = Refused f; sign = AtMost }
 
--- "one of `<=` `>=` `==`"; "Invariants use `<=` only"
+-- a token that has to be a sign (SPECIFICATION 3.1); an invariant has but one of them (SPECIFICATION 3.2)
 unfoldable pub sign-of : Bool → Token → SignRead
 sign-of invariant t =
     cond (eqb (t .kind) kinds.at-most)
@@ -65,7 +65,7 @@ unfoldable pub sign-next : List ℕ → Status → Bool → SignRead
 sign-next s (Refused f) invariant = no-sign f
 sign-next s (At p) invariant = sign-of invariant (token-at s p)
 
--- "each is a clock, one of `<=` `>=` `==`, and a numeral"; `over`: it is one comparison too many
+-- a comparison (SPECIFICATION 3.1); `over`: it is one too many, which is code 7 at its clock (SPECIFICATION 4.5)
 unfoldable pub comparison-next : List ℕ → Status → List Name → Bool → Bool → ComparisonRead
 comparison-next s st names invariant over =
     let clock = use-name s st names first-clock clock-limit over in
@@ -85,8 +85,8 @@ blank-constraint = record { comparisons = replicate comparison-limit no-comparis
 unfoldable pub with-comparison : Constraint → Comparison → Constraint
 with-comparison c x = record { comparisons = set (c .comparisons) (c .count) x; count = c .count + 1 }
 
--- comparisons joined by `&&`, then the closing token; there is room for
--- so many after c, and the first past them is refused
+-- comparisons joined by `&&`, then the closing token; there is room for so many after c, and the first past them is
+-- refused. There is one comparison at least (SPECIFICATION 3.4)
 unfoldable pub constraint-from : ℕ → List ℕ → List Name → Bool → ℕ → Status → Constraint → ConstraintRead
 constraint-from zero s names invariant closing st c =
     record { status = comparison-next s st names invariant true .status; constraint = c }
@@ -96,7 +96,7 @@ constraint-from (suc room) s names invariant closing st c =
     let more = constraint-from room s names invariant closing (take s (x .status) kinds.both) d in
     cond (ahead s (x .status) kinds.both) more (record { status = take s (x .status) closing; constraint = d })
 
--- "4 comparisons in a guard or invariant"
+-- as many comparisons as the limit allows (SPECIFICATION 4.3)
 unfoldable pub constraint : List ℕ → Status → List Name → Bool → ℕ → ConstraintRead
 constraint s st names invariant closing = constraint-from comparison-limit s names invariant closing st blank-constraint
 
@@ -106,10 +106,10 @@ optional opening invariant closing s st names =
     let given = constraint s (take s st opening) names invariant closing in
     cond (ahead s st opening) given (record { status = st; constraint = blank-constraint })
 
--- "optional `guard` comparisons `;`"
+-- the guard of an edge, where there is one (SPECIFICATION 3.1)
 abbrev pub guard : List ℕ → Status → List Name → ConstraintRead
 guard = optional kinds.guard false kinds.semicolon
 
--- "optionally `{` invariant `}`"
+-- the invariant of a location, where there is one (SPECIFICATION 3.1)
 abbrev pub invariant : List ℕ → Status → List Name → ConstraintRead
 invariant = optional kinds.opens true kinds.closes

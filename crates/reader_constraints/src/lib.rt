@@ -1,4 +1,4 @@
-// Reads a guard or an invariant of a contract text: comparisons joined by `&&`.
+// Reads a guard or an invariant of a contract text (SPECIFICATION 3.1, 3.2).
 ghost use mathlib.Core.Path.{_≡_};
 ghost use mathlib.Core.Bool.{true, false};
 ghost use Prim.Native.Nat.{_+_, _≤_, _<_};
@@ -77,7 +77,7 @@ fn no_sign(f: Fault) -> SignRead
     }
 }
 
-// The next token, which has to be one of `<=` `>=` `==`, in an invariant `<=`.
+// The next token, which has to be a sign (SPECIFICATION 3.1, in an invariant 3.2).
 fn sign_next(s: &[u8], st: Status, invariant: bool) -> SignRead
     ensures { λ r. ⌜ r ≡ sign-next (now (s .entry)) st invariant ⌝ }
 {
@@ -245,7 +245,7 @@ fn optional(
     }
 }
 
-// An optional `guard` with its comparisons and `;`.
+// The guard of an edge, where there is one (SPECIFICATION 3.1).
 pub fn guard(s: &[u8], st: Status, names: [Name; NAME_SLOTS]) -> ConstraintRead
     requires { ⌜ length (now s) ≤ largest-text ⌝ }
     ensures { λ r. ⌜ r ≡ guard (now (s .entry)) st names ⌝ }
@@ -260,7 +260,7 @@ pub fn guard(s: &[u8], st: Status, names: [Name; NAME_SLOTS]) -> ConstraintRead
     )
 }
 
-// An optional `{` with its comparisons and `}`.
+// The invariant of a location, where there is one (SPECIFICATION 3.1).
 pub fn invariant(s: &[u8], st: Status, names: [Name; NAME_SLOTS]) -> ConstraintRead
     requires { ⌜ length (now s) ≤ largest-text ⌝ }
     ensures { λ r. ⌜ r ≡ invariant (now (s .entry)) st names ⌝ }

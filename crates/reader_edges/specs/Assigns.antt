@@ -1,4 +1,4 @@
--- The assignments of an edge: `assign`, clock `= 0` items joined by commas, `;`.
+-- The resets of an edge (SPECIFICATION 3.1, 3.2, 3.4), any number of them (SPECIFICATION 4.3).
 use mathlib.Core.Bool.{Bool, true, false, cond, _&&_}
 use mathlib.Core.List.{List}
 use Prim.Native.Nat.{ℕ, zero, suc}
@@ -19,7 +19,7 @@ use Rattle.reader_edges.specs.declared.AssignRead.{AssignRead}
 use Rattle.reader_edges.specs.declared.AssignsRead.{AssignsRead}
 use Rattle.limits.specs.Limits.{clock-limit}
 
--- "in `assign` any value but 0 gives 2"
+-- a token that has to be a numeral of the value 0 (SPECIFICATION 3.2, 4.2): else code 2 (SPECIFICATION 4.5)
 unfoldable pub zero-of : List ℕ → Token → Status
 zero-of s t =
     cond (eqb (t .kind) kinds.numeral && eqb (numeral-value 0 (drop (t .place) s)) 0)
@@ -31,7 +31,7 @@ unfoldable pub zero-next : List ℕ → Status → Status
 zero-next s (Refused f) = Refused f
 zero-next s (At p) = zero-of s (token-at s p)
 
--- "clock `= 0`"
+-- a reset (SPECIFICATION 3.1)
 unfoldable pub assign-next : List ℕ → Status → List Name → AssignRead
 assign-next s st names =
     let clock = use-name s st names first-clock clock-limit false in
@@ -52,12 +52,12 @@ assigns-from (suc room) s names st resets =
     let more = assigns-from room s names (take s (x .status) kinds.comma) all in
     cond (ahead s (x .status) kinds.comma) more (record { status = take s (x .status) kinds.semicolon; resets = all })
 
--- "items joined by commas `;`", with the clocks that are reset already; `items-more` and `items-last` of Progress are
--- its equations, without the counter
+-- the resets after `assign`, with the clocks that are reset already; a clock that comes twice is reset once
+-- (SPECIFICATION 4.3). `items-more` and `items-last` of Progress are its equations, without the counter
 unfoldable pub assign-items : List ℕ → List Name → Status → List Bool → AssignsRead
 assign-items s names st resets = assigns-from (suc (length s)) s names st resets
 
--- "optional `assign` clock `= 0` items joined by commas `;`"
+-- the resets of an edge, where there are any (SPECIFICATION 3.1)
 unfoldable pub assigns : List ℕ → Status → List Name → AssignsRead
 assigns s st names =
     let given = assign-items s names (take s st kinds.assign) no-resets in

@@ -1,5 +1,4 @@
--- "An edge is `A -> B {` optional `guard` comparisons `;` then `sync` channel `?` or `!` `;` then optional `assign`
--- clock `= 0` items joined by commas `;` and `}`."
+-- An edge: its locations, guard, label and resets (SPECIFICATION 3.1).
 use mathlib.Core.Bool.{Bool, false}
 use mathlib.Core.List.{List}
 use Prim.Native.Nat.{ℕ}
@@ -16,7 +15,7 @@ use Rattle.reader_edges.specs.Labels.{label-next}
 use Rattle.reader_edges.specs.Assigns.{assigns}
 use Rattle.limits.specs.Limits.{location-limit}
 
--- `over`: it is one edge too many
+-- an edge (SPECIFICATION 3.1); `over`: it is one too many, which is code 7 at its source (SPECIFICATION 4.5)
 unfoldable pub edge-next : List ℕ → Status → List Name → List Channel → Bool → EdgeRead
 edge-next s st names channels over =
     let source = use-name s st names first-location location-limit over in

@@ -1,5 +1,4 @@
--- The label of an edge: "`sync` channel `?` or `!` `;`". "An edge is
--- labelled with an input (`?`) or an output (`!`) channel."
+-- The label of an edge: a channel and its mark, which says input or output (SPECIFICATION 3.1, 3.6).
 use mathlib.Core.Bool.{Bool, true, false, cond, not}
 use mathlib.Core.List.{List}
 use Prim.Native.Nat.{ℕ, _+_}
@@ -29,7 +28,7 @@ use Rattle.limits.specs.Limits.{channel-limit}
 abbrev pub no-mark : Fault → MarkRead
 no-mark f = record { status = Refused f; input = false }
 
--- a token that has to be `?` or `!`: whether it is the mark of an input
+-- a token that has to be a mark (SPECIFICATION 3.1): whether it is that of an input (SPECIFICATION 3.6)
 unfoldable pub mark-of : Token → MarkRead
 mark-of t =
     cond (eqb (t .kind) kinds.input)
@@ -43,23 +42,23 @@ unfoldable pub mark-next : List ℕ → Status → MarkRead
 mark-next s (Refused f) = no-mark f
 mark-next s (At p) = mark-of (token-at s p)
 
--- whether a channel that the edges before use in the direction d may have the mark
+-- whether a channel that the edges before use in the direction d may have the mark (SPECIFICATION 3.6)
 unfoldable pub fits : Direction → Bool → Bool
 fits direction.Unused input = true
 fits direction.Input input = input
 fits direction.Output input = not input
 
--- the reader has come to st, past the mark of the channel whose name is at `place`: "channel used with the other
--- mark, at its name"
+-- the reader has come to st, past the mark of the channel whose name is at `place`: code 8 where the mark is not right
+-- (SPECIFICATION 4.5)
 unfoldable pub mark-judged : Status → Bool → ℕ → Status
 mark-judged (Refused f) right place = Refused f
 mark-judged (At p) right place = cond right (At p) (Refused (OtherMark place))
 
--- "Channels are numbered from 1": number 0 among the channels' slots is channel 1
+-- number 0 among the channels' slots is channel 1 (SPECIFICATION 4.4)
 unfoldable pub label-of : Bool → ℕ → Label
 label-of input channel = cond input (label.Input (channel + 1)) (label.Output (channel + 1))
 
--- `channels` says how the edges before use each channel
+-- the label (SPECIFICATION 3.1); `channels` says how the edges before use each channel
 unfoldable pub label-next : List ℕ → Status → List Name → List Channel → LabelRead
 label-next s st names channels =
     let channel = use-name s (take s st kinds.sync) names first-channel channel-limit false in

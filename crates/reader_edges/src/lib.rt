@@ -1,4 +1,4 @@
-// Reads an edge of a contract text: `A -> B {` optional guard, label, optional assignments `}`.
+// Reads an edge of a contract text: its locations, guard, label and resets (SPECIFICATION 3.1).
 ghost use mathlib.Core.Path.{_≡_};
 ghost use mathlib.Core.Bool.{true, false};
 ghost use Prim.Native.Nat.{_+_, _≤_, _<_};
@@ -117,7 +117,7 @@ pub struct LabelRead {
     pub label: Label,
 }
 
-// `sync`, a channel, its mark and `;`.
+// The label: a channel and its mark (SPECIFICATION 3.1, 3.6).
 fn label_next(
     s: &[u8],
     st: Status,
@@ -147,7 +147,7 @@ fn label_next(
     }
 }
 
-// The next token, which has to be a numeral of the value 0.
+// The next token, which has to be a numeral of the value 0 (SPECIFICATION 3.2).
 fn zero_next(s: &[u8], st: Status) -> Status
     ensures { λ r. ⌜ r ≡ zero-next (now (s .entry)) st ⌝ }
 {
@@ -174,7 +174,7 @@ pub struct AssignRead {
     pub clock: usize,
 }
 
-// A clock, `=` and 0.
+// A reset (SPECIFICATION 3.1).
 fn assign_next(s: &[u8], st: Status, names: [Name; NAME_SLOTS]) -> AssignRead
     requires { ⌜ length (now s) ≤ largest-text ⌝ }
     ensures { λ r. ⌜ r ≡ assign-next (now (s .entry)) st names ⌝ }
@@ -200,7 +200,7 @@ pub struct AssignsRead {
     pub resets: [bool; CLOCK_LIMIT],
 }
 
-// Items joined by commas, then `;`. Each comma that is taken leaves fewer bytes.
+// The resets after `assign`. Each comma that is taken leaves fewer bytes.
 fn assign_items(s: &[u8], st: Status, names: [Name; NAME_SLOTS]) -> AssignsRead
     requires { ⌜ length (now s) ≤ largest-text ⌝ }
     ensures { λ r. ⌜ r ≡ assign-items (now (s .entry)) names st no-resets ⌝ }
@@ -223,7 +223,7 @@ fn assign_items(s: &[u8], st: Status, names: [Name; NAME_SLOTS]) -> AssignsRead
     }
 }
 
-// An optional `assign` with its items and `;`.
+// The resets of an edge, where there are any (SPECIFICATION 3.1).
 fn assigns(s: &[u8], st: Status, names: [Name; NAME_SLOTS]) -> AssignsRead
     requires { ⌜ length (now s) ≤ largest-text ⌝ }
     ensures { λ r. ⌜ r ≡ assigns (now (s .entry)) st names ⌝ }

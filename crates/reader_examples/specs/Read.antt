@@ -1,4 +1,4 @@
--- The five texts of document 01 read to their records: computed by the definition of reading.
+-- The five posts (SPECIFICATION 16.1) read to their records: computed by the definition of reading.
 use mathlib.Core.Path.{_≡_, refl}
 use mathlib.Core.List.{List}
 use Prim.Native.Nat.{ℕ}

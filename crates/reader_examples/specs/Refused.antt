@@ -1,4 +1,4 @@
--- Refusals, each with its code and byte place, and the places where document 01 could be read two ways: computed by the
+-- Refusals, each with its code and byte place (SPECIFICATION 4.5), and texts at the edges of the rules: computed by the
 -- definition of reading.
 use mathlib.Core.Path.{_≡_, refl}
 use Prim.Native.Nat.{suc}
@@ -26,38 +26,38 @@ pub too-long :
 unfolding opened
 too-long = refl
 
--- each code of reading but 1, by a text or more
+-- each code of reading but 1, by a text or more (SPECIFICATION 4.5)
 pub record Codes : Type 0 where
-  -- 2, "or the end"
+  -- 2, at the end
   pub empty : Refuses "" (misfit 0)
-  -- 2, "first token that does not fit"
+  -- 2, at a token
   pub first-misfit : Refuses "process P(){init A;}system P;" (misfit 12)
-  -- 3, "name too long"
+  -- 3, of 32 bytes
   pub long-name : Refuses "broadcast chan nnnnnnnnnnnnnnnnnnnnnnnnnnnnnnnn;process P(){state A;init A;}system P;"
       (name-too-long 15)
-  -- 4, "name declared before"
+  -- 4, a channel
   pub twice : Refuses "broadcast chan a,b,a;process P(){state A;init A;}system P;" (declared-before 19)
-  -- 5, "name undeclared"
+  -- 5, without a declaration
   pub undeclared : Refuses "process P(){state A;init B;}system P;" (unknown-name 25)
-  -- 5, "or of the wrong kind"
+  -- 5, with one of another kind
   pub wrong-kind : Refuses "broadcast chan a;process P(){state A;init a;}system P;" (unknown-name 42)
-  -- 5, "`system` names another process"
+  -- 5, after `system`
   pub other-process : Refuses "process P(){state A;init A;}system Q;" (unknown-name 35)
-  -- 6, "constant over 1,000"
+  -- 6, in an invariant
   pub large : Refuses "process P(){clock x;state A{x<=1001},B;init B;}system P;" (constant-too-large 31)
-  -- 7, "first item over a count limit, at its first name"
+  -- 7, a clock
   pub clock-four : Refuses "process P(){clock x,y,z,w;state A;init A;}system P;" (too-many-items 24)
-  -- 7
+  -- 7, a channel
   pub channel-seventeen : Refuses
       "broadcast chan c0,c1,c2,c3,c4,c5,c6,c7,c8,c9,c10,c11,c12,c13,c14,c15,d;process P(){state A;init A;}system P;"
       (too-many-items 69)
-  -- 7
+  -- 7, a location
   pub location-thirty-three : Refuses
       "process P(){state l0,l1,l2,l3,l4,l5,l6,l7,l8,l9,l10,l11,l12,l13,l14,l15,l16,l17,l18,l19,l20,l21,l22,l23,l24,l25,l26,l27,l28,l29,l30,l31,m;init l0;}system P;" (too-many-items 136)
-  -- 7
+  -- 7, a comparison
   pub comparison-five : Refuses "process P(){clock x;state A{x<=1&&x<=1&&x<=1&&x<=1&&x<=1},B;init B;}system P;"
       (too-many-items 52)
-  -- 8, "channel used with the other mark, at its name"
+  -- 8, an output before
   pub mark : Refuses "broadcast chan a,b;process P(){clock x;state A,B;init A;trans A->B{sync a!;},B->A{sync a?;};}system P;" (other-mark 87)
 
 pub codes : Codes
@@ -79,7 +79,8 @@ codes =
       mark = refl;
     }
 
--- the places where document 01 could be read two ways
+-- texts at the edges of the rules: places, white space, longest tokens, values of numerals, and which of two faults is
+-- given (SPECIFICATION 2.1 to 2.5, 3.4, 4.1 to 4.6)
 pub record Ties : Type 0 where
   -- the end is at the length of the text
   pub the-end : Refuses "process \n" (misfit 9)
@@ -102,7 +103,7 @@ pub record Ties : Type 0 where
   pub word : Refuses "process state(){state A;init A;}system state;" (misfit 8)
   -- `A`, `B`, `tick` and `State` are names
   pub no-words : Accepts "broadcast chan tick;process A(){state B,State;init B;}system A;"
-  -- lists are not empty
+  -- a list has an item, and so has the place after a comma
   pub empty-invariant : Refuses "process P(){clock x;state A{},B;init B;}system P;" (misfit 28)
   pub empty-guard : Refuses "broadcast chan a,b;process P(){clock x;state A,B;init A;trans A->B{guard ;sync a!;};}system P;" (misfit 73)
   pub trailing-comma : Refuses "broadcast chan a,;process P(){state A;init A;}system P;" (misfit 17)
@@ -114,7 +115,7 @@ pub record Ties : Type 0 where
       (constant-too-large 31)
   -- `00` is 0
   pub double-zero : Accepts "broadcast chan a,b;process P(){clock x;state A,B;init A;trans A->B{sync a!;assign x=00;};}system P;"
-  -- any value but 0 gives 2, also over 1,000
+  -- a reset to 1 or more is 2, also over 1,000
   pub assigned-over : Refuses "broadcast chan a,b;process P(){clock x;state A,B;init A;trans A->B{sync a!;assign x=5000;};}system P;" (misfit 84)
   -- a repeated clock is one reset
   pub repeated : Accepts "broadcast chan a,b;process P(){clock x;state A,B;init A;trans A->B{sync a!;assign x=0,x=0;};}system P;"

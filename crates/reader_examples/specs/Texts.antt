@@ -1,4 +1,4 @@
--- Document 01, "Marker posts to try": the five texts, byte by byte.
+-- The five posts (SPECIFICATION 16.1), byte by byte.
 use mathlib.Core.List.{List, [], _∷_, _++_}
 use Prim.Native.Nat.{ℕ}
 use Prim.Native.Char.{code}
@@ -28,7 +28,7 @@ post =
     ∷ "system Post;"
     ∷ [])
 
--- "Rearm adds `assign x = 0;` to the second edge."
+-- a spike sets the clock back: the second edge has a reset (SPECIFICATION 16.1)
 abbrev pub rearm : List ℕ
 rearm =
     lines
@@ -47,7 +47,7 @@ rearm =
     ∷ "system Post;"
     ∷ [])
 
--- "Early has 2 for both 3s."
+-- one tick earlier: both constants are 2 (SPECIFICATION 16.1)
 abbrev pub early : List ℕ
 early =
     lines
@@ -66,7 +66,7 @@ early =
     ∷ "system Post;"
     ∷ [])
 
--- "Hush drops the `late!` edge."
+-- the third edge is left out (SPECIFICATION 16.1)
 abbrev pub hush : List ℕ
 hush =
     lines
@@ -84,7 +84,7 @@ hush =
     ∷ "system Post;"
     ∷ [])
 
--- "Idle is Hush without the invariant."
+-- the third edge and the invariant are left out (SPECIFICATION 16.1)
 abbrev pub idle : List ℕ
 idle =
     lines

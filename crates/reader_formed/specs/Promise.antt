@@ -1,4 +1,5 @@
--- What reading promises of the names of an accepted text: each lies within the text, and all of them differ as spelled.
+-- What reading promises of the names of an accepted text: each lies within the text (SPECIFICATION 5.2), and all of
+-- them differ as spelled (SPECIFICATION 4.1).
 use mathlib.Core.Path.{_≡_}
 use mathlib.Core.Bool.{false}
 use mathlib.Core.List.{List}
@@ -20,7 +21,7 @@ clock-name t c = getD (t .clocks) c no-name
 abbrev pub location-name : Text → ℕ → Name
 location-name t l = getD (t .locations) l no-location .name
 
--- a name has a byte or more, is no longer than allowed, and ends within the text
+-- a name has a byte or more (SPECIFICATION 2.2), no more than its limit (SPECIFICATION 4.3), and ends within the text
 pub record Within (s : List ℕ) (n : Name) : Type 0 where
   pub some : 0 < n .len
   pub few : n .len ≤ largest-name
@@ -35,7 +36,7 @@ pub record Names-within (s : List ℕ) (t : Text) : Type 0 where
 abbrev pub Unlike : List ℕ → Name → Name → Type 0
 Unlike s m n = same (m .len) (drop (m .place) s) (n .len) (drop (n .place) s) ≡ false
 
--- "All names in one file differ": those of one kind, and those of two
+-- all names differ, those of one kind and those of two (SPECIFICATION 4.1)
 pub record Names-differ (s : List ℕ) (t : Text) : Type 0 where
   pub channels :
       (c d : ℕ) → c < t .«channel_count» → d < t .«channel_count» → (c ≡ d → ⊥)

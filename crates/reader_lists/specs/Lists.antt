@@ -1,4 +1,5 @@
--- The lists of a text: "Lists are joined by commas and are not empty."
+-- The lists of a text: channels, clocks, locations and edges (SPECIFICATION 3.1, 3.4), each with its limit
+-- (SPECIFICATION 4.3).
 use mathlib.Core.Bool.{cond}
 use mathlib.Core.List.{List}
 use Prim.Native.Nat.{ℕ, zero, suc}
@@ -18,9 +19,9 @@ use Rattle.limits.specs.Limits.{channel-limit, clock-limit, location-limit, edg
 abbrev pub stopped : State → Status → State
 stopped r st = record { status = st; names = r .names; text = r .text }
 
--- one item more, of each kind: "first item over a count limit, at its first name" is refused, and the record stays
+-- one item more, of each kind: one over the limit is code 7 (SPECIFICATION 4.5), and the record stays
 
--- "`broadcast chan` names `;`": a name
+-- a channel: its name is declared (SPECIFICATION 4.1)
 unfoldable pub channel-item : List ℕ → State → State
 channel-item s r =
     let n = r .text .«channel_count» in
@@ -28,7 +29,7 @@ channel-item s r =
     let q : State = record { status = d .status; names = d .names; text = with-channel (r .text) (d .name) } in
     cond (leb channel-limit n) (stopped r (d .status)) q
 
--- "`clock` names `;`": a name
+-- a clock: its name is declared (SPECIFICATION 4.1)
 unfoldable pub clock-item : List ℕ → State → State
 clock-item s r =
     let n = r .text .«clock_count» in
@@ -36,7 +37,7 @@ clock-item s r =
     let q : State = record { status = d .status; names = d .names; text = with-clock (r .text) (d .name) } in
     cond (leb clock-limit n) (stopped r (d .status)) q
 
--- "`state` locations `;` where a location is a name, optionally `{` invariant `}`": a location
+-- a location: its name is declared (SPECIFICATION 4.1), and its invariant may follow (SPECIFICATION 3.1)
 unfoldable pub location-item : List ℕ → State → State
 location-item s r =
     let n = r .text .«location_count» in
@@ -46,7 +47,7 @@ location-item s r =
     let q : State = record { status = i .status; names = d .names; text = u } in
     cond (leb location-limit n) (stopped r (d .status)) q
 
--- "`trans` edges `;`": an edge
+-- an edge (SPECIFICATION 3.1)
 unfoldable pub edge-item : List ℕ → State → State
 edge-item s r =
     let full = leb edge-limit (r .text .«edge_count») in
@@ -68,14 +69,15 @@ one-item Clock = clock-item
 one-item Location = location-item
 one-item Edge = edge-item
 
--- how many items of a kind a text has at most
+-- how many items of a kind a text has at most (SPECIFICATION 4.3)
 abbrev pub limit : Item → ℕ
 limit Channel = channel-limit
 limit Clock = clock-limit
 limit Location = location-limit
 limit Edge = edge-limit
 
--- a list where there is room for so many more items, and `;`: where there is none the next item is refused
+-- a list where there is room for so many more items, and `;`: where there is none the next item is refused. There is
+-- one item at least, and one after each comma (SPECIFICATION 3.4)
 unfoldable pub items-from : ℕ → Item → List ℕ → State → State
 items-from zero k s r = one-item k s r
 items-from (suc room) k s r =

@@ -1,4 +1,5 @@
--- What the reader has read: how far it has come, the declared names by their slots, and the record so far.
+-- What the reader has read: how far it has come, the declared names by their slots, and the record so far, to which
+-- items are added in their order (SPECIFICATION 4.4, 5.1).
 use mathlib.Core.Bool.{Bool, cond}
 use mathlib.Core.List.{List}
 use Prim.Native.Nat.{ℕ, _+_}
@@ -46,7 +47,7 @@ no-text = record {
 unfoldable pub next-token : List ℕ → State → ℕ → State
 next-token s r k = record { status = take s (r .status) k; names = r .names; text = r .text }
 
--- one channel more, which no edge names yet
+-- one channel more, which no edge names yet (SPECIFICATION 5.1)
 unfoldable pub with-channel : Text → Name → Text
 with-channel t n = record {
   channels = set (t .channels) (t .«channel_count») (record { name = n; direction = direction.Unused });
@@ -74,7 +75,7 @@ with-clock t n = record {
   «edge_count» = t .«edge_count»;
 }
 
--- one location more
+-- one location more, with its invariant (SPECIFICATION 5.1)
 unfoldable pub with-location : Text → Name → Constraint → Text
 with-location t n c = record {
   channels = t .channels;
@@ -88,7 +89,7 @@ with-location t n c = record {
   «edge_count» = t .«edge_count»;
 }
 
--- the direction that a mark says
+-- the direction that a mark says (SPECIFICATION 3.6)
 unfoldable pub direction-by : Bool → Direction
 direction-by input = cond input direction.Input direction.Output
 
@@ -97,7 +98,7 @@ unfoldable pub marked : List Channel → ℕ → Bool → List Channel
 marked channels k input =
     set channels k (record { name = getD channels k no-channel .name; direction = direction-by input })
 
--- one edge more, and the direction of its channel
+-- one edge more, and the direction of its channel (SPECIFICATION 3.6, 5.1)
 unfoldable pub with-edge : Text → Edge → ℕ → Bool → Text
 with-edge t e k input = record {
   channels = marked (t .channels) k input;
@@ -111,7 +112,7 @@ with-edge t e k input = record {
   «edge_count» = t .«edge_count» + 1;
 }
 
--- the location where it starts
+-- the `init` location (SPECIFICATION 5.1)
 unfoldable pub with-init : Text → ℕ → Text
 with-init t i = record {
   channels = t .channels;

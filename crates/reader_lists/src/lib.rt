@@ -1,4 +1,4 @@
-// Reads the lists of a contract text: channels, clocks, locations and edges, joined by commas.
+// Reads the lists of a contract text: channels, clocks, locations and edges (SPECIFICATION 3.1).
 ghost use mathlib.Core.Path.{_≡_};
 ghost use mathlib.Core.Bool.{true, false};
 ghost use Prim.Native.Nat.{_+_, _≤_, _<_};

@@ -1,4 +1,5 @@
--- The record of a text as numbers, for callers that have no Rattle types. Items past those of the text are its filling.
+-- The record of a text as numbers in a fixed order, for callers that have no Rattle types (SPECIFICATION 15.2). Items
+-- past those of the text are its filling.
 use mathlib.Core.Bool.{false, cond}
 use mathlib.Core.List.{List, [], _∷_, _++_}
 use Prim.Native.Nat.{ℕ, zero, suc, _+_}
@@ -19,7 +20,7 @@ use Rattle.reader_record.specs.declared.Text.{Text}
 use Rattle.reader_record.specs.Record.{no-name, no-channel, no-location, comparison, edge, channel}
 use Rattle.limits.specs.Limits.{channel-limit, clock-limit, location-limit, edge-limit, comparison-limit}
 
--- numbers written one after another from a place on; those past the end are dropped
+-- numbers written one after another from a place on; those past the end are dropped (SPECIFICATION 15.2)
 unfoldable pub put-at : List ℕ → ℕ → List ℕ → List ℕ
 put-at r at [] = r
 put-at r at (x ∷ xs) = put-at (set r at x) (at + 1) xs
@@ -95,7 +96,7 @@ location-row t i = location-numbers (getD (t .locations) i no-location)
 abbrev pub edge-row : Text → ℕ → List ℕ
 edge-row t i = edge-numbers (edge t i)
 
--- the whole record: counts, channels, clocks, locations and edges, from the places that Layout says
+-- the whole record (SPECIFICATION 15.2): counts, channels, clocks, locations, edges, from the places that Layout says
 unfoldable pub numbers : Text → ℕ → List ℕ
 numbers t states =
     (((counts t states ++ rows channel-limit (channel-row t)) ++ rows clock-limit (clock-row t)) ++ rows location-limit (location-row t)) ++

@@ -1,4 +1,4 @@
-// The record of a text as numbers in a slice, for callers that have no Rattle types.
+// The record of a text as numbers in a slice, for callers that have no Rattle types (SPECIFICATION 15.2).
 use limits::CHANNEL_LIMIT;
 use limits::CLOCK_LIMIT;
 use limits::COMPARISON_LIMIT;

@@ -1,4 +1,5 @@
--- The names of a text: their declarations and their uses. Of two faults at one place, the lower code is judged.
+-- The names of a text, their declarations and their uses (SPECIFICATION 4.1), with codes 4, 5 and 7
+-- (SPECIFICATION 4.5). Of two faults at one place, the lower code is judged (SPECIFICATION 4.6).
 use mathlib.Core.Bool.{Bool, cond, not, _&&_}
 use mathlib.Core.List.{List}
 use Prim.Native.Nat.{ℕ, _+_, _-_}
@@ -28,7 +29,7 @@ abbrev pub no-declaration : List Name → Name → Fault → Declaration
 no-declaration names n f = record { status = Refused f; names = names; name = n }
 
 -- the name n, past which the reader has come to st, is declared: number `number` of those in the `limit` slots from
--- `first` on. "name declared before" is judged before "first item over a count limit"
+-- `first` on. Code 4 comes before code 7 (SPECIFICATION 4.5, 4.6)
 unfoldable pub declare-name : List ℕ → List Name → ℕ → ℕ → ℕ → Name → Status → Declaration
 declare-name s names first number limit n (Refused f) = no-declaration names n f
 declare-name s names first number limit n (At e) =
@@ -49,7 +50,7 @@ abbrev pub no-use : Fault → Use
 no-use f = record { status = Refused f; number = 0; place = 0 }
 
 -- the name n, past which the reader has come to st, is used: it has to be declared in one of the `limit` slots from
--- `first` on. "name undeclared or of the wrong kind" is judged before "first item over a count limit"
+-- `first` on. Code 5 comes before code 7 (SPECIFICATION 4.5, 4.6)
 unfoldable pub use-of : List ℕ → List Name → ℕ → ℕ → Bool → Name → Status → Use
 use-of s names first limit over n (Refused f) = no-use f
 use-of s names first limit over n (At e) =

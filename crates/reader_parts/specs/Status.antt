@@ -1,5 +1,5 @@
--- "The reader reads tokens from left to right and remembers its place": how far it has come, and single tokens. The
--- first fault stays: what comes after it is not read.
+-- How far the reader has come, and single tokens, with codes 2 and 3 (SPECIFICATION 4.5). The first fault stays: what
+-- comes after it is not read (SPECIFICATION 4.6).
 use mathlib.Core.Bool.{Bool, false, cond}
 use mathlib.Core.List.{List}
 use Prim.Native.Nat.{ℕ, _-_}
@@ -15,7 +15,7 @@ use Rattle.reader_parts.specs.declared.Status.the-variants.{At, Refused}
 use Rattle.reader_parts.specs.declared.NameRead.{NameRead}
 use Rattle.limits.specs.Limits.{largest-name}
 
--- the next token, which has to be of the kind k; one that does not fit is refused at its place
+-- the next token, which has to be of the kind k: else code 2 (SPECIFICATION 4.5)
 unfoldable pub take : List ℕ → Status → ℕ → Status
 take s (Refused f) k = Refused f
 take s (At p) k = let t = token-at s p in cond (eqb (t .kind) k) (At (t .end)) (Refused (Misfit (t .place)))
@@ -28,7 +28,7 @@ ahead s (At p) k = eqb (token-at s p .kind) k
 abbrev pub no-name-read : Fault → NameRead
 no-name-read f = record { status = Refused f; name = no-name }
 
--- a token that has to be a name, "name 31 bytes" at most
+-- a token that has to be a name: else code 2, and 3 where it is over the limit (SPECIFICATION 4.5)
 unfoldable pub name-of : Token → NameRead
 name-of t =
     cond (eqb (t .kind) kinds.name)

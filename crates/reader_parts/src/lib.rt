@@ -26,7 +26,7 @@ pub const FIRST_LOCATION: usize = FIRST_CLOCK + CLOCK_LIMIT;
 
 pub const NAME_SLOTS: usize = FIRST_LOCATION + LOCATION_LIMIT;
 
-// Why a text is refused, with the byte place. The crate `reader` gives the code of each.
+// Why a text is refused, with the byte place (SPECIFICATION 4.5). The crate `reader` gives the code of each.
 pub enum Fault {
     TooLong,
     Misfit(usize),
@@ -38,7 +38,7 @@ pub enum Fault {
     OtherMark(usize),
 }
 
-// How far the reader has come. A reader that refuses stays where it is.
+// How far the reader has come. A reader that refuses stays where it is (SPECIFICATION 4.6).
 pub enum Status {
     At(usize),
     Refused(Fault),

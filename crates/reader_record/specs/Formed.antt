@@ -1,5 +1,6 @@
--- What reading promises of a record: the limits of document 01, that the numbers in it are those of declared clocks,
--- locations and channels, and that a channel has the direction in which the edges use it.
+-- What reading promises of a record: the limits (SPECIFICATION 4.3), that the numbers in it are those of declared
+-- clocks, locations and channels (SPECIFICATION 3.5), and that a channel has the direction in which the edges use it
+-- (SPECIFICATION 3.6, 5.1).
 use mathlib.Core.Path.{_≡_}
 use mathlib.Core.Bool.{Bool, true, false}
 use Prim.Native.Nat.{ℕ, _≤_, _<_}
@@ -15,7 +16,7 @@ use Rattle.reader_record.specs.declared.Text.{Text}
 use Rattle.reader_record.specs.Record.{direction-of, comparison, edge, invariant-of, channel}
 use Rattle.limits.specs.Limits.{channel-limit, clock-limit, location-limit, edge-limit, comparison-limit, largest-constant}
 
--- the mark of a label is that of the channel's direction
+-- the mark of a label is that of the channel's direction (SPECIFICATION 3.6)
 unfoldable pub agrees : Label → Direction → Bool
 agrees (Input c) Unused = false
 agrees (Input c) In = true
@@ -24,36 +25,36 @@ agrees (Output c) Unused = false
 agrees (Output c) In = false
 agrees (Output c) Out = true
 
--- a guard or an invariant in a text with so many clocks
+-- a guard or an invariant in a text with so many clocks (SPECIFICATION 3.5, 4.3)
 pub record Formed-constraint (clocks : ℕ) (g : Constraint) : Type 0 where
   pub few : g .count ≤ comparison-limit
   pub clock : (i : ℕ) → i < g .count → comparison g i .clock < clocks
   pub bound : (i : ℕ) → i < g .count → comparison g i .bound ≤ largest-constant
 
 pub record Well-formed (t : Text) : Type 0 where
-  -- the limits
+  -- the limits (SPECIFICATION 4.3)
   pub channels : t .«channel_count» ≤ channel-limit
   pub clocks : t .«clock_count» ≤ clock-limit
   pub locations : t .«location_count» ≤ location-limit
   pub edges : t .«edge_count» ≤ edge-limit
-  -- the start is a declared location
+  -- the start is a declared location (SPECIFICATION 3.5)
   pub init : t .init < t .«location_count»
-  -- an invariant compares declared clocks with allowed constants, by `<=` alone
+  -- an invariant compares declared clocks with allowed constants, by `<=` alone (SPECIFICATION 3.2)
   pub invariant : (l : ℕ) → l < t .«location_count» → Formed-constraint (t .«clock_count») (invariant-of t l)
   pub at-most : (l i : ℕ) → l < t .«location_count» → i < invariant-of t l .count
       → comparison (invariant-of t l) i .sign ≡ AtMost
   -- a guard compares declared clocks with allowed constants
   pub guard : (i : ℕ) → i < t .«edge_count» → Formed-constraint (t .«clock_count») (edge t i .guard)
-  -- an edge leads from a declared location to a declared location
+  -- an edge leads from a declared location to a declared location (SPECIFICATION 3.5)
   pub source : (i : ℕ) → i < t .«edge_count» → edge t i .source < t .«location_count»
   pub target : (i : ℕ) → i < t .«edge_count» → edge t i .target < t .«location_count»
-  -- the label of an edge is a declared channel, with the mark of the channel's direction
+  -- the label of an edge is a declared channel, with the mark of the channel's direction (SPECIFICATION 3.6)
   pub direction : (i : ℕ) → i < t .«edge_count» → T
       (agrees (edge t i .label) (direction-of t (channel (edge t i .label))))
   pub label : (i : ℕ) → i < t .«edge_count» → (0 < channel (edge t i .label))
       × (channel (edge t i .label) ≤ t .«channel_count»)
-  -- an edge assigns declared clocks alone
+  -- an edge assigns declared clocks alone (SPECIFICATION 3.5)
   pub assigned : (i k : ℕ) → i < t .«edge_count» → getD (edge t i .resets) k false ≡ true → k < t .«clock_count»
-  -- a declared channel that has a direction is the label of an edge
+  -- a declared channel that has a direction is the label of an edge (SPECIFICATION 5.1)
   pub used : (c : ℕ) → 0 < c → c ≤ t .«channel_count» → (direction-of t c ≡ Unused → ⊥)
       → (i : ℕ) × (i < t .«edge_count») × (channel (edge t i .label) ≡ c)

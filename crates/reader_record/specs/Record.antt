@@ -1,5 +1,5 @@
--- The record of a contract text, read item by item. Where an index is
--- past the end of a list, the answer is a fixed empty item.
+-- The record of a contract text, item by item (SPECIFICATION 5.1, 5.3). Where an index is past the end of a list, the
+-- answer is a fixed empty item.
 use mathlib.Core.List.{[]}
 use Prim.Native.Nat.{ℕ, _-_}
 use lib.ListN.{getD}
@@ -41,14 +41,14 @@ comparison g i = getD (g .comparisons) i no-comparison
 abbrev pub edge : Text → ℕ → Edge
 edge t i = getD (t .edges) i no-edge
 
--- the direction of channel c, from 1
+-- the direction of channel c, from 1 (SPECIFICATION 4.4, 5.1)
 abbrev pub direction-of : Text → ℕ → Direction
 direction-of t c = getD (t .channels) (c - 1) no-channel .direction
 
 abbrev pub invariant-of : Text → ℕ → Constraint
 invariant-of t l = getD (t .locations) l no-location .invariant
 
--- the channel of a label, from 1
+-- the channel of a label, from 1 (SPECIFICATION 5.3)
 unfoldable pub channel : Label → ℕ
 channel (Input c) = c
 channel (Output c) = c

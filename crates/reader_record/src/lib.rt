@@ -1,18 +1,18 @@
-// The record of a contract text: what reading returns.
+// The record of a contract text (SPECIFICATION 5): what reading returns.
 use limits::CHANNEL_LIMIT;
 use limits::CLOCK_LIMIT;
 use limits::COMPARISON_LIMIT;
 use limits::EDGE_LIMIT;
 use limits::LOCATION_LIMIT;
 
-// A name, as the byte place and the length of its declaration. Names are kept in a table that is passed by value: so a
+// A name, by the bytes of its declaration (SPECIFICATION 5.2). Names are kept in a table that is passed by value: so a
 // name is in four bytes, which the limits on the bytes of a text and of a name allow.
 pub struct Name {
     pub place: u16,
     pub len: u8,
 }
 
-// How the edges use a channel. One that no edge names counts as an output that never happens.
+// How the edges use a channel (SPECIFICATION 5.1). `Unused` counts as an output (SPECIFICATION 3.6).
 pub enum Direction {
     Unused,
     Input,
@@ -24,22 +24,22 @@ pub struct Channel {
     pub direction: Direction,
 }
 
-// The sign of a comparison: `<=`, `>=` or `==`.
+// The sign of a comparison (SPECIFICATION 3.1): `<=`, `>=` or `==`.
 pub enum Sign {
     AtMost,
     AtLeast,
     Equal,
 }
 
-// A clock, by its number from 0, a sign and a constant. A record is passed by value and holds hundreds of comparisons,
-// constraints and edges: their numbers are in the narrowest types that the limits allow.
+// A clock, by its number from 0, a sign and a constant (SPECIFICATION 5.3). A record is passed by value and holds
+// hundreds of comparisons, constraints and edges: their numbers are in the narrowest types that the limits allow.
 pub struct Comparison {
     pub clock: u8,
     pub sign: Sign,
     pub bound: u16,
 }
 
-// A guard or an invariant: all of the first `count` comparisons.
+// A guard or an invariant: all of the first `count` comparisons (SPECIFICATION 6.2).
 pub struct Constraint {
     pub comparisons: [Comparison; COMPARISON_LIMIT],
     pub count: u8,
@@ -50,13 +50,14 @@ pub struct Location {
     pub invariant: Constraint,
 }
 
-// What an edge is labelled with: an input or an output channel, by its number from 1.
+// The label of an edge: an input or an output, with the channel's number from 1 (SPECIFICATION 5.3).
 pub enum Label {
     Input(u8),
     Output(u8),
 }
 
-// Source and target are locations by their number from 0; `resets` has the clocks that the edge sets to 0.
+// An edge (SPECIFICATION 5.1). Source and target are locations by their number from 0; `resets` has the clocks that the
+// edge sets to 0.
 pub struct Edge {
     pub source: u8,
     pub target: u8,
@@ -65,7 +66,8 @@ pub struct Edge {
     pub resets: [bool; CLOCK_LIMIT],
 }
 
-// The first `.._count` items of each list are those of the text, in its order; the rest is filling.
+// The whole record (SPECIFICATION 5.1). The first `.._count` items of each list are those of the text, in its order
+// (SPECIFICATION 4.4); the rest is filling.
 pub struct Text {
     pub channels: [Channel; CHANNEL_LIMIT],
     pub channel_count: usize,

@@ -1,5 +1,6 @@
-// Reads tokens from left to right and remembers its place. The borrow checker covers no function over a struct that
-// holds a slice, so each is thin and proved by hand; the work is `reader_tokens::token_at`, and callers use `scan`.
+// A text and the place that the reader has come to in it, for tokens in their order (SPECIFICATION 4.6). The borrow
+// checker covers no function over a struct that holds a slice, so each is thin and proved by hand; the work is
+// `reader_tokens::token_at`, and callers use `scan`.
 ghost use mathlib.Core.Path.{_≡_};
 ghost use Rattle.reader_tokens.specs.Tokens.{token-at};
 use reader_tokens::Token;

@@ -1,4 +1,5 @@
--- The kinds of token, as numbers: a mark of one byte is its byte, one of two is 256 times the first and the second.
+-- The kinds of token (SPECIFICATION 2.2, 2.3, 2.5), as numbers: a mark of one byte is its byte, one of two is 256 times
+-- the first and the second.
 use Prim.Native.Nat.{ℕ, _+_, _*_}
 use Prim.Native.Char.{code}
 
@@ -6,23 +7,23 @@ use Prim.Native.Char.{code}
 abbrev pub byte-values : ℕ
 byte-values = 256
 
--- the end of the text, "or the end"
+-- the end of the text, which counts as a token (SPECIFICATION 3.3, 4.5)
 abbrev pub end : ℕ
 end = 0
 
--- a byte that starts no token
+-- a byte that starts no token (SPECIFICATION 2.5)
 abbrev pub stray : ℕ
 stray = 1
 
--- "A name is a letter or underscore, then letters, digits, underscores"
+-- a name (SPECIFICATION 2.2)
 abbrev pub name : ℕ
 name = 2
 
--- "A numeral is one or more digits"
+-- a numeral (SPECIFICATION 2.2)
 abbrev pub numeral : ℕ
 numeral = 3
 
--- "the words above are not names": each word is a kind of its own
+-- the words, each a kind of its own (SPECIFICATION 2.3)
 abbrev pub broadcast : ℕ
 broadcast = 4
 
@@ -56,7 +57,7 @@ sync = 13
 abbrev pub assign : ℕ
 assign = 14
 
--- the marks of one byte, and those of two
+-- the marks of one byte, and those of two (SPECIFICATION 2.2)
 abbrev pub comma : ℕ
 comma = code ","
 

@@ -1,4 +1,5 @@
--- Bytes of a text, and runs of them.
+-- Bytes of a text, and runs of them: white space, names and numerals (SPECIFICATION 2.1, 2.2), values of numerals
+-- (SPECIFICATION 4.2), names that are spelled the same (SPECIFICATION 4.1, 9.1).
 use mathlib.Core.Bool.{Bool, true, false, cond, _||_, _&&_}
 use mathlib.Core.List.{List, [], _∷_}
 use Prim.Native.Nat.{ℕ, zero, suc, _+_, _*_, _-_}
@@ -18,21 +19,22 @@ abbrev pub member : ℕ → List ℕ → Bool
 member b [] = false
 member b (k ∷ ks) = eqb b k || member b ks
 
--- "Space, tab, CR and LF may stand between tokens"
+-- white bytes (SPECIFICATION 2.1)
 unfoldable pub is-space : ℕ → Bool
 is-space b = member b (bytes " \t\r\n")
 
 abbrev pub from-to : Char → Char → ℕ → Bool
 from-to a z b = leb (code a) b && leb b (code z)
 
--- "a letter or underscore"
+-- what a name begins with (SPECIFICATION 2.2)
 unfoldable pub is-letter : ℕ → Bool
 is-letter b = eqb b (code "_") || (from-to "A" "Z" b || from-to "a" "z" b)
 
+-- what a numeral is made of (SPECIFICATION 2.2)
 unfoldable pub is-digit : ℕ → Bool
 is-digit b = from-to "0" "9" b
 
--- what a name goes on with: "then letters, digits, underscores"
+-- what a name goes on with (SPECIFICATION 2.2)
 unfoldable pub is-part : ℕ → Bool
 is-part b = is-letter b || is-digit b
 
@@ -49,7 +51,7 @@ past p s at = at + run p (drop at s)
 abbrev pub with-digit : ℕ → ℕ → ℕ
 with-digit a b = a * 10 + (b - code "0")
 
--- the number that the digits at the front are, read on from a: of any size
+-- the number that the digits at the front are, read on from a: of any size (SPECIFICATION 4.2)
 unfoldable pub numeral-value : ℕ → List ℕ → ℕ
 numeral-value a [] = a
 numeral-value a (b ∷ s) = let v = numeral-value (with-digit a b) s in cond (is-digit b) v a
@@ -69,6 +71,6 @@ agree (suc n) [] y = false
 agree (suc n) (a ∷ x) [] = false
 agree (suc n) (a ∷ x) (b ∷ y) = let r = agree n x y in cond (eqb a b) r false
 
--- the m bytes at the front of x are the n bytes at the front of y
+-- the m bytes at the front of x are the n bytes at the front of y: names spelled the same (SPECIFICATION 4.1, 9.1)
 unfoldable pub same : ℕ → List ℕ → ℕ → List ℕ → Bool
 same m x n y = let r = agree m x y in cond (eqb m n) r false

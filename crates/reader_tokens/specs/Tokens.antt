@@ -1,4 +1,4 @@
--- The token at or after a place: "the longest token counts".
+-- The token at or after a place (SPECIFICATION 2.2 to 2.5).
 use mathlib.Core.Bool.{Bool, cond, _||_, _&&_}
 use mathlib.Core.List.{List, [], _∷_}
 use Prim.Native.Nat.{ℕ, suc, _+_, _-_}
@@ -17,7 +17,7 @@ is-in Space = is-space
 is-in Part = is-part
 is-in Digit = is-digit
 
--- the words of document 01 in the order of their kinds: "the words above are not names"
+-- the words, in the order of their kinds (SPECIFICATION 2.3)
 unfoldable pub words : List (List ℕ)
 words =
     bytes "broadcast"
@@ -38,22 +38,22 @@ unfoldable pub word-from : ℕ → List (List ℕ) → ℕ → List ℕ → ℕ
 word-from k [] n x = name
 word-from k (w ∷ ws) n x = let r = word-from (suc k) ws n x in cond (same n x (length w) w) k r
 
--- a word or a name
+-- a word or a name (SPECIFICATION 2.3)
 unfoldable pub word-kind : ℕ → List ℕ → ℕ
 word-kind n x = word-from broadcast words n x
 
 abbrev pub are : Char → Char → ℕ → ℕ → Bool
 are x y a b = eqb a (code x) && eqb b (code y)
 
--- the marks of two bytes
+-- the marks of two bytes (SPECIFICATION 2.2)
 unfoldable pub is-pair : ℕ → ℕ → Bool
 is-pair a b = are "-" ">" a b || (are "<" "=" a b || (are ">" "=" a b || (are "=" "=" a b || are "&" "&" a b)))
 
--- the marks of one byte
+-- the marks of one byte (SPECIFICATION 2.2)
 unfoldable pub is-single : ℕ → Bool
 is-single a = member a (bytes ",;{}()?!=")
 
--- the kind of the mark that starts with the byte a, before the byte b: two bytes before one
+-- the kind of the mark that starts with the byte a, before the byte b: two bytes before one (SPECIFICATION 2.4, 2.5)
 unfoldable pub mark-kind : ℕ → ℕ → ℕ
 mark-kind a b = cond (is-pair a b) (pair a b) (cond (is-single a) a stray)
 
@@ -69,7 +69,8 @@ mark-at s p =
 unfoldable pub word-at : List ℕ → ℕ → Token
 word-at s p = let e = past is-part s p in record { kind = word-kind (e - p) (drop p s); place = p; end = e }
 
--- the token that starts at p: a word or a name, a numeral, a mark; past the last byte it is the end
+-- the token that starts at p: a word or a name, a numeral, a mark; past the last byte it is the end. Words, names and
+-- numerals go on as far as they can (SPECIFICATION 2.4)
 unfoldable pub token-from : List ℕ → ℕ → Token
 token-from s p =
     let word = word-at s p in
@@ -79,6 +80,6 @@ token-from s p =
     (cond (is-letter (getD s p 0)) word (cond (is-digit (getD s p 0)) number mark))
     (record { kind = end; place = p; end = p })
 
--- the token at or after `at`, past white space
+-- the token at or after `at`, past white space (SPECIFICATION 2.1)
 unfoldable pub token-at : List ℕ → ℕ → Token
 token-at s at = token-from s (past is-space s at)

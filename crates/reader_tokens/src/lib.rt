@@ -1,4 +1,4 @@
-// Finds the token at or after a byte place of a contract text, and what a numeral comes to.
+// Finds the token at or after a byte place of a contract text (SPECIFICATION 2.4), and what a numeral comes to.
 ghost use mathlib.Core.Path.{_≡_};
 ghost use mathlib.Core.Bool.{true};
 ghost use mathlib.Core.List.{map, flatten};

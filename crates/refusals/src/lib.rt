@@ -1,11 +1,11 @@
-// What a refused call returns: document 01's code (p, q), and the mark of the file that it concerns.
+// A refusal: code, file mark, p and q (SPECIFICATION 13.1, 13.2). Each is made by a function of its own.
 use steps::Step;
 ghost use mathlib.Core.Path.{_≡_};
 ghost use Prim.Native.Nat.{_≤_, _<_};
 ghost use Rattle.limits.specs.Limits.{state-limit};
 ghost use Rattle.refusals.specs.Refusals.{in-file, text-too-long, misfit, name-too-long, declared-before, unknown-name, constant-too-large, too-many-items, other-mark, too-many-states, input-without-move, two-edges, unmatched-channel, keep-too-short, table-too-short, queue-too-short, other-table, start-not-safe, start-pair-not-set, pair-not-allowed, rule-broken, run-too-short};
 
-// The file that a refusal concerns: the left or only text, the right text, or none.
+// The file that a refusal concerns: the left or only text, the right text, or none (SPECIFICATION 13.2).
 pub const LEFT_FILE: usize = 1;
 
 pub const RIGHT_FILE: usize = 2;

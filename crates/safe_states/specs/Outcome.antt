@@ -1,4 +1,4 @@
--- Document 01's safe-state operation: what it answers, and what keep holds afterwards.
+-- The safe-state operation: what it answers, and what keep holds afterwards (SPECIFICATION 8.4, 12.2, 13.4, 13.5).
 use mathlib.Core.Bool.{true, false}
 use mathlib.Core.List.{List}
 use Prim.Native.Nat.{ℕ}
@@ -21,26 +21,27 @@ pub record Outcome : Type 0 where
   pub answer : SafeAnswer
   pub keep : List ℕ
 
--- a refusal leaves keep untouched
+-- a refusal leaves keep untouched (SPECIFICATION 13.5)
 abbrev pub refused : SafeAnswer → List ℕ → Outcome
 refused a k = record { answer = a; keep = k }
 
--- the count, whether the start is safe, and one bit a state, the later bytes untouched
+-- the count, whether the start is safe, and one bit a state, the later bytes untouched (SPECIFICATION 8.4, 12.2)
 unfoldable pub found-outcome : Text → List ℕ → Outcome
 found-outcome t k = record {
   answer = Found (ones (safe-states t)) (at (safe-states t) (start-state t));
   keep = packed (state-count t) (safe-states t) k;
 }
 
--- code 13: keep too short
+-- code 13: keep too short (SPECIFICATION 13.1)
 unfoldable pub kept-outcome : Text → List ℕ → Outcome
 kept-outcome t k = elim (ltb (length k) (bytes-for (state-count t)))
     [ true ↦ refused (Refused (keep-too-short (bytes-for (state-count t)))) k | false ↦ found-outcome t k ]
 
--- codes 1 to 11 come before it
+-- codes 1 to 11 come before it (SPECIFICATION 13.4)
 unfoldable pub answered : Verdict → Text → List ℕ → Outcome
 answered verdict.Accepted t k = kept-outcome t k
 answered (verdict.Refused f) t k = refused (Refused f) k
 
+-- the operation on a text by its bytes (SPECIFICATION 12.2)
 unfoldable pub safe-outcome : List ℕ → List ℕ → Outcome
 safe-outcome s k = answered (read-outcome s .answer) (read-outcome s .text) k

@@ -1,4 +1,4 @@
-// Document 01's safe-state operation.
+// The operation that finds the safe states of a text (SPECIFICATION 12.2).
 use clocks_read::Measured;
 use reader_record::Text;
 use refusals::Refusal;
@@ -10,7 +10,7 @@ ghost use Rattle.clocks_read.specs.Measured.{Measures};
 ghost use Rattle.safe_states.specs.Outcome.{Outcome, found-outcome, safe-outcome};
 ghost use Rattle.safe_states.specs.Ready.{Ready};
 
-// The count of the safe states and whether the start is one, or what is refused.
+// The count of the safe states and whether the start is one, or what is refused (SPECIFICATION 12.2).
 pub enum SafeAnswer {
     Found(usize, bool),
     Refused(Refusal),
@@ -31,7 +31,7 @@ fn found(t: Text, n: usize, moves: &[u16], holds: &[u8], keep: &mut [u8]) -> Saf
     SafeAnswer::Found(count, safe)
 }
 
-// The operation with slices that have room for the text, which is parsed and measured.
+// The operation with slices that have room for the text, which is parsed and measured (SPECIFICATION 12.2).
 pub fn safe_in(
     text: &[u8],
     m: Measured,

@@ -1,5 +1,5 @@
-// A step as document 01 writes it: one number, 0 for the tick, else a channel's number from 1. Where a step is written, in
-// a run, in code 20 or by a program, it goes through this type.
+// A step: the tick, or a channel, as one number (SPECIFICATION 6.8). Where a step is written, in a run, in code 20 or
+// by a program, it goes through this type.
 ghost use mathlib.Core.Path.{_≡_};
 ghost use Prim.Native.Nat.{_<_};
 ghost use lib.Dec.{eqb};

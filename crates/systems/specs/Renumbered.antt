@@ -1,5 +1,5 @@
--- A system with its steps renumbered, and its capping: "Channels pair up by name", so the right text is read with the
--- channel numbers of the left, `f` giving the right's number of each.
+-- A system with its steps renumbered, and its capping: the right text by the channel numbers of the left, `f` giving
+-- the right's number of each (SPECIFICATION 9.2).
 use mathlib.Core.Path.{_≡_, refl}
 use mathlib.Core.Bool.{Bool, true, false, cond}
 use mathlib.Core.Option.{Option, none}

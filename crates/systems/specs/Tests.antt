@@ -1,4 +1,5 @@
--- Tests of numbers and tables of Booleans: the words in which Finite.antt computes. Definitions only; laws in
+-- Tests of numbers and tables of Booleans: the words in which Finite.antt computes the safe states, the check, the
+-- widest table and the search (SPECIFICATION 8.3, 11.5, 11.6, 10.4). No rule stands here. Definitions only; laws in
 -- Bools.antt and Sieve.antt.
 use mathlib.Core.Bool.{Bool, true, false, not, _&&_, _||_}
 use mathlib.Core.Option.{Option, none, some}

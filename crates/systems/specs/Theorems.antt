@@ -38,17 +38,17 @@ identity L = record {
 
 -- 1. Safe states
 
--- "The safe states are the largest set of states ...": the computed ones are, carried over the capping.
+-- The computed safe states, carried over the capping, are the largest safe set (SPECIFICATION 8.3).
 pub safe-states-largest : {A : Signature} {M : System A} {L : Finite-system A} (C : Capping M L)
     → Largest-safe-set M (Safe-at C)
 safe-states-largest C = record { is-safe = safe-at-safe C; largest = safe-at-largest C }
 
 module _ {A : Signature} {M : System A} {L : Finite-system A} (C : Capping M L) where
-  -- "whether the start is safe": the start is safe exactly when its number is
+  -- the start is safe exactly when its number is
   pub start-safe-iff : T (safe L (L .start)) ↔ Safe-at C (M .start)
   start-safe-iff = (λ h. rw (C .starts) h, λ h. rw (C .starts) at h)
 
-  -- a system has an implementation ("one that satisfies it") exactly when its start is safe
+  -- a system has an implementation that satisfies it exactly when its start is safe (SPECIFICATION 8.3)
   pub implementation-iff : ((I : Implementation A) × Satisfies I M) ↔ T (safe L (L .start))
   implementation-iff = (
     λ (I, S). satisfied-safe I L (satisfies-capped C I S),
@@ -66,7 +66,7 @@ module _ {A : Signature} {M : System A} {L : Finite-system A} (C : Capping M L) 
   )
 
 module _ {A : Signature} {M N : System A} {L R : Finite-system A} (C : Capping M L) (D : Capping N R) where
-  -- 2. Departures and implementations (demand 3)
+  -- 2. Departures and implementations (SPECIFICATION 17.3)
 
   -- With a safe left start: there is no departure exactly when every implementation of the left satisfies the right.
   pub no-departure-exactly : T (safe L (L .start))
@@ -92,10 +92,10 @@ module _ {A : Signature} {M N : System A} {L R : Finite-system A} (C : Capping M
       let (u, v, e, d) = departure-prefix L R I s w x (computed-run p) (not-allowed-capped D w n) in
       (u, v, e, departure-uncapped C D (satisfied-safe I L s) u d)
 
-  -- 3. The search (demand 3)
+  -- 3. The search (SPECIFICATION 17.3)
 
   module _ (start-safe : T (safe L (L .start))) where
-    -- "0 if there is none": it answers the empty run exactly when there is no departure.
+    -- it answers the empty run exactly when there is no departure
     pub search-empty-exactly : (search-run L R ≡ []) ↔ No-departure M N (Safe-at C)
     search-empty-exactly =
         let e = search-empty-iff L R start-safe in (
@@ -103,8 +103,7 @@ module _ {A : Signature} {M N : System A} {L R : Finite-system A} (C : Capping M
           λ n. e .1 (λ w d. n w (departure-uncapped C D start-safe w d)),
         )
 
-    -- "the steps of a shortest one ...; of the shortest runs ... the one smallest step by step": else its run is a
-    -- departure, none is shorter, and none of its length is smaller step by step.
+    -- else its run is a departure, none is shorter, and none of its length is smaller (SPECIFICATION 10.4)
     pub search-shortest : (search-run L R ≡ [] → ⊥) → Shortest-departure M N (Safe-at C) (search-run L R)
     search-shortest k = ⊎-elim (λ h. absurd (k (h .0))) (λ d. record {
       departure = departure-uncapped C D start-safe (search-run L R) (d .is-departure);
@@ -138,7 +137,8 @@ module _ {A : Signature} {M N : System A} {L R : Finite-system A} (C : Capping M
         let k : search-run L R ≡ [] → ⊥ = λ z. search-empty-exactly .0 z u d in
         (k, omega (arith, search-shortest k .shortest u d, simp length-append at (ap length e)))
 
-  -- 4. Tables (demand 2). A table denotes a relation of all pairs of states, also of those with a false invariant.
+  -- 4. Tables (SPECIFICATION 17.2). A table denotes a relation of all pairs of states, also of those with a false
+  -- invariant.
 
   -- The check accepts a table exactly when the relation it denotes contains the start pair and meets the rules.
   pub check-exactly : (X : ℕ → ℕ → Bool)
@@ -163,8 +163,8 @@ module _ {A : Signature} {M N : System A} {L R : Finite-system A} (C : Capping M
       ↔ Step-rules M N (Safe-at C) (λ u v. T (X (C .cap u) (D .cap v))) x y c
   step-exactly X x y c l k = step-iff C D X x y c l k
 
-  -- "The widest table" holds exactly the pairs of states that some relation meeting the rules holds: what it denotes
-  -- is such a relation, and every such relation lies in it.
+  -- The widest table (SPECIFICATION 11.6): what it denotes is a relation that meets the rules, and every such relation
+  -- lies in it.
   pub widest-refines : Refines M N (Safe-at C) (Widest C D)
   widest-refines = refinement-uncapped C D (Related L R (cell L R (widest L R))) (widest-related L R)
 
@@ -180,7 +180,7 @@ module _ {A : Signature} {M N : System A} {L R : Finite-system A} (C : Capping M
       → Widest C D x y ↔ ((Q : M .State → N .State → Type 0) × Refines M N (Safe-at C) Q × Q x y)
   widest-exactly x y = (λ q. (Widest C D, widest-refines, q), λ (Q, r, q). widest-contains Q r x y q)
 
-  -- "that fact": it has the start pair exactly when there is no departure, with a safe left start
+  -- with a safe left start, it has the start pair exactly when there is no departure
   pub widest-start-exactly : T (safe L (L .start)) → Widest C D (M .start) (N .start) ↔ No-departure M N (Safe-at C)
   widest-start-exactly h =
       let e = widest-start-iff L R h in (

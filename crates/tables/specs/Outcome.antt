@@ -1,5 +1,5 @@
--- The operations on tables, for two systems of one signature: document 01's answers, and what keep and the table hold
--- afterwards, for all contents and lengths.
+-- The operations on tables, for two systems of one signature: their answers, and what keep and the table hold
+-- afterwards, for all contents and lengths (SPECIFICATION 12.5, 12.6, 13.3, 13.5).
 use mathlib.Core.Bool.{not, cond}
 use mathlib.Core.List.{List, _++_}
 use Prim.Native.Nat.{ℕ}
@@ -31,14 +31,15 @@ pub record Checked : Type 0 where
 abbrev pub check-refused : Refusal → List ℕ → Checked
 check-refused r keep = record { answer = check.Refused r; keep = keep }
 
--- 19 and 20 for the lowest pair that fails, or the number of pairs set; `width` is W, the right states
+-- 19 and 20 for the lowest pair that fails, or the number of pairs set (SPECIFICATION 11.5, 12.5, 13.1); `width` is W,
+-- the right states
 unfoldable pub scanned : ℕ → ℕ → Found → CheckAnswer
 scanned width count Passed = check.Accepted count
 scanned width count (NotAllowedAt s t) = check.Refused (pair-not-allowed s t)
 scanned width count (BrokenAt step s t) = check.Refused (rule-broken width (step .number) s t)
 
 -- The check of a table for L, the left, and R, the right: 13, 16, 17, 18 in that order, then 19 and 20 by pair. From 17
--- on keep holds the left's safe states.
+-- on keep holds the left's safe states (SPECIFICATION 12.5, 13.3, 13.5).
 unfoldable pub check-systems : {A : Signature} → Finite-system A → Finite-system A → List ℕ → List ℕ → Checked
 check-systems L R keep table =
     let needed = bytes-for (L .size) in
@@ -62,7 +63,8 @@ pub record Widened : Type 0 where
 abbrev pub widest-refused : Refusal → List ℕ → List ℕ → Widened
 widest-refused r keep table = record { answer = made.Refused r; keep = keep; table = table }
 
--- 13, 14, 17 in that order, else the widest table in front of the old bytes, whether or not it has the start pair.
+-- 13, 14, 17 in that order, else the widest table in front of the old bytes, with or without the start pair
+-- (SPECIFICATION 11.6, 12.6, 13.3, 13.5).
 unfoldable pub widest-systems : {A : Signature} → Finite-system A → Finite-system A → List ℕ → List ℕ → Widened
 widest-systems L R keep table =
     let needed = bytes-for (L .size) in

@@ -9,7 +9,7 @@ use Rattle.move_tables.specs.declared.Sides.{Sides}
 use Rattle.move_tables.specs.Held.{Held}
 use Rattle.tables.specs.Outcome.{Checked, check-systems, Widened, widest-systems}
 
--- for all systems that they hold the outcome is document 01's
+-- for all systems that they hold the outcome is that of the systems (SPECIFICATION 12.5, 12.6)
 abbrev pub Checks : Sides → List Bool → List ℕ → List ℕ → List ℕ → List ℕ → List ℕ → List ℕ → Checked → Type 0
 Checks sides inputs lm rm lh rh keep table o =
     (A : Signature) (L R : Finite-system A) → Held L R sides inputs lm rm lh rh → o ≡ check-systems L R keep table

@@ -1,4 +1,5 @@
--- The check on slices is the check of document 01, and it passes exactly where the theory's check does.
+-- The scan of slices finds what Judged.antt finds in a table's pairs (SPECIFICATION 11.5), and it passes exactly where
+-- the theory's check does.
 use mathlib.Core.Path.{_≡_, refl, sym, subst, ap, _∙_}
 use mathlib.Core.Logic.{_↔_, _⊎_, inl, inr, ⊎-elim}
 use mathlib.Core.Bool.{Bool, true, false, not, _&&_, cond}
@@ -302,7 +303,7 @@ table-same f g w (suc m) s h =
     (table-same f g w m (s + 1) (λ i t a b c. h i t (omega arith) (omega arith) c))
     (λ i a b. h s i (omega arith) (omega arith) (omega arith))
 
--- the scan of the slices gives what document 01 says of the table
+-- the scan of the slices gives what is found in the table's pairs (SPECIFICATION 11.5)
 module _ {A : Signature} (L R : Finite-system A) (k : List ℕ) {keep holds lm rm : List ℕ} {sides : Sides}
     (G : Systems A L R keep holds lm rm sides) where
   abbrev n : ℕ

@@ -1,4 +1,5 @@
--- What is found in a table: the fault of a pair, and the lowest pair that fails, by row and then column.
+-- What is found in a table: the fault of a pair, and the lowest pair that fails, by row and then column
+-- (SPECIFICATION 11.5).
 use mathlib.Core.Bool.{cond}
 use Prim.Native.Nat.{ℕ, zero, suc, _+_}
 use lib.Dec.{ltb}
@@ -8,7 +9,7 @@ use Rattle.tables_check.specs.declared.Fault.the-variants.{Fine, NotAllo
 use Rattle.tables_check.specs.declared.Found.{Found}
 use Rattle.tables_check.specs.declared.Found.the-variants.{Passed, NotAllowedAt, BrokenAt}
 
--- the step that document 01 writes as c
+-- the step whose number is c (SPECIFICATION 6.8)
 abbrev pub step : ℕ → Step
 step c = record { number = c }
 
@@ -27,7 +28,7 @@ unfoldable pub row-from : (ℕ → ℕ → Fault) → ℕ → ℕ → ℕ → Fo
 row-from f s zero t rest = rest
 row-from f s (suc m) t rest = picked (f s t) s t (row-from f s m (t + 1) rest)
 
--- the lowest pair that fails in m rows from row s on, by row, then column
+-- the lowest pair that fails in m rows from row s on, by row, then column (SPECIFICATION 11.5)
 unfoldable pub table-from : (ℕ → ℕ → Fault) → ℕ → ℕ → ℕ → Found
 table-from f w zero s = Passed
 table-from f w (suc m) s = row-from f s w 0 (table-from f w m (s + 1))

@@ -1,5 +1,5 @@
--- What document 01 says of a table's pairs, by the systems: 19, then 20
--- with the least step; the lowest pair by row, then column.
+-- What is found in a table's pairs, by the systems: 19, then 20 with the least step; the lowest pair by row, then
+-- column (SPECIFICATION 11.5).
 use mathlib.Core.Path.{_≡_}
 use mathlib.Core.Bool.{Bool, not, _&&_, cond}
 use Prim.Native.Nat.{ℕ, suc, _<_}
@@ -14,7 +14,7 @@ use Rattle.tables_check.specs.declared.Found.the-variants.{Passed}
 
 -- L the left, R the right, X the relation that the table denotes
 module _ {A : Signature} (L R : Finite-system A) (X : ℕ → ℕ → Bool) where
-  -- step c breaks a rule at the pair (s, t)
+  -- step c breaks a rule at the pair (s, t), the left pruned (SPECIFICATION 9.3, 9.4)
   unfoldable pub breaks : ℕ → ℕ → ℕ → Bool
   breaks s t c = not (step-ok A (pruned L) (R .next) X s t c)
 
@@ -22,13 +22,13 @@ module _ {A : Signature} (L R : Finite-system A) (X : ℕ → ℕ → Bool) wher
   unfoldable pub least-broken : ℕ → ℕ → ℕ
   least-broken s t = least (breaks s t) 0 (suc (A .channels))
 
-  -- 19: s is not safe or t's invariant is false; 20: a rule is broken
+  -- what a pair that is set fails at: 19 for its states, else 20 for a rule (SPECIFICATION 11.5)
   unfoldable pub pair-fault : ℕ → ℕ → Fault
   pair-fault s t =
       let broken = step-fault (suc (A .channels)) (least-broken s t) in
       cond (X s t) (cond (safe L s && R .holds t) broken NotAllowed) Fine
 
-  -- the lowest pair that fails, by row, then column
+  -- the lowest pair that fails, by row, then column (SPECIFICATION 11.5)
   unfoldable pub pairs-judged : Found
   pairs-judged = table-from pair-fault (R .size) (L .size) 0
 

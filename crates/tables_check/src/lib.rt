@@ -21,7 +21,8 @@ pub enum Fault {
     Broken(Step),
 }
 
-// What is found in a raster: no pair that fails, or the lowest one, with the step where it breaks a rule.
+// What is found in a raster: no pair that fails, or the lowest one, with the step where it breaks a rule
+// (SPECIFICATION 11.5).
 pub enum Found {
     Passed,
     NotAllowedAt(usize, usize),

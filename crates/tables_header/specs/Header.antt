@@ -1,4 +1,4 @@
--- Document 01's table file, a Netpbm raw PBM: the header and how long the table is.
+-- A table as a file, a Netpbm raw PBM: the header and how long the table is (SPECIFICATION 11.1, 11.2).
 use mathlib.Core.Bool.{Bool, true, false, _&&_}
 use mathlib.Core.List.{List, [], _∷_, _++_}
 use Prim.Native.Nat.{ℕ, zero, suc, _+_, _*_, _/_, _%_}
@@ -23,7 +23,7 @@ unfoldable pub digits : ℕ → ℕ → List ℕ
 digits zero n = []
 digits (suc k) n = elim (ltb n 10) [ true ↦ digit n ∷ [] | false ↦ digits k (n / 10) ++ (digit (n % 10) ∷ []) ]
 
--- a number in decimal, without leading zeros: n + 1 digits are always enough
+-- a number in decimal, without leading zeros (SPECIFICATION 11.1): n + 1 digits are always enough
 unfoldable pub decimal : ℕ → List ℕ
 decimal n = digits (suc n) n
 
@@ -40,14 +40,14 @@ line-end = ascii "\n"
 abbrev pub magic-bytes : ℕ
 magic-bytes = length magic-line
 
--- `P4`, LF, W, one space, H, LF; W the right states, H the left states
+-- the header for w right states and h left states (SPECIFICATION 11.1)
 unfoldable pub header : ℕ → ℕ → List ℕ
 header w h = magic-line ++ (decimal w ++ (space ++ (decimal h ++ line-end)))
 
 unfoldable pub header-bytes : ℕ → ℕ → ℕ
 header-bytes w h = length (header w h)
 
--- h rows of ceil(w / 8) bytes
+-- h rows of ceil(w / 8) bytes (SPECIFICATION 11.2)
 abbrev pub raster-bytes : ℕ → ℕ → ℕ
 raster-bytes w h = h * bytes-for w
 
@@ -64,6 +64,6 @@ begins [] t = true
 begins (b ∷ p) [] = false
 begins (b ∷ p) (c ∷ t) = eqb c b && begins p t
 
--- what 16 asks of a given table: its header is this very one, and its total length is right
+-- what 16 asks of a given table: its header is this very one, and its total length is right (SPECIFICATION 11.1, 13.1)
 unfoldable pub fits : ℕ → ℕ → List ℕ → Bool
 fits w h t = begins (header w h) t && eqb (length t) (table-bytes w h)

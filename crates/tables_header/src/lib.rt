@@ -139,7 +139,7 @@ pub fn table_length(w: usize, h: usize) -> usize
     header_length(w, h) + h * bitmaps::bytes_for(w)
 }
 
-// Document 01's 16 does not apply: the header and the total length are those of w right and h left states.
+// Code 16 does not apply (SPECIFICATION 13.1): the header and the total length are those of w right and h left states.
 pub fn is_table(table: &[u8], w: usize, h: usize) -> bool
     requires { ⌜ (w ≤ state-limit) × (h ≤ state-limit) ⌝ }
     ensures { λ r. ⌜ r ≡ fits w h (now (table .entry)) ⌝ }

@@ -21,7 +21,7 @@ fn kept(keep: &[u8], t: u16) -> u16
     move_tables::NO_MOVE
 }
 
-// Takes away the moves that leave the states of keep, document 01's pruning of the left.
+// Takes away the moves that leave the states of keep: the pruning of the left (SPECIFICATION 9.3).
 pub fn prune(moves: &mut [u16], keep: &[u8], n: usize, steps: usize)
     requires { ⌜ Bounded n steps (now moves) × (bytes-for n ≤ length (now keep)) ⌝ }
     ensures { λ _. ⌜ Pruned n steps (now (keep .entry)) (now (moves .entry)) (now (moves .exit)) ⌝ }

@@ -1,4 +1,4 @@
--- A raster: the rows of a table of n times w entries, each in whole bytes, padding 0.
+-- A raster: the rows of a table of n times w entries, each in whole bytes, padding 0 (SPECIFICATION 11.2, 11.3).
 use mathlib.Core.Path.{_≡_}
 use mathlib.Core.Bool.{Bool, _&&_}
 use mathlib.Core.List.{List, _++_}
@@ -14,7 +14,7 @@ use Rattle.bitmaps.specs.Packed.{Packed, bytes-for}
 abbrev pub raster-limit : ℕ
 raster-limit = state-limit * keep-limit
 
--- row s of a raster whose rows take b bytes each
+-- row s of a raster whose rows take b bytes each (SPECIFICATION 11.2)
 abbrev pub part : ℕ → ℕ → List ℕ → List ℕ
 part b s k = take b (drop (s * b) k)
 
@@ -22,7 +22,7 @@ part b s k = take b (drop (s * b) k)
 abbrev pub row : ℕ → List Bool → ℕ → List Bool
 row w X s = take w (drop (s * w) X)
 
--- bit t of row s of a raster: the pair (s, t) is related
+-- bit t of row s of a raster: the pair (s, t) is related (SPECIFICATION 11.2)
 abbrev pub set-at : ℕ → List ℕ → ℕ → ℕ → Bool
 set-at w k s t = bit-at (part (bytes-for w) s k) t
 
@@ -30,7 +30,7 @@ set-at w k s t = bit-at (part (bytes-for w) s k) t
 unfoldable pub without : ℕ → List ℕ → ℕ → ℕ → List ℕ
 without w k s t = let i = s * bytes-for w + t / 8 in set k i (getD k i 0 - 2 ^ (7 - t % 8))
 
--- the table that a raster denotes, padding not read
+-- the table that a raster denotes, padding not read (SPECIFICATION 11.3)
 unfoldable pub denoted : ℕ → ℕ → List ℕ → List Bool
 denoted n w k = table (n * w) (λ p. set-at w k (p / w) (p % w))
 
@@ -38,7 +38,7 @@ denoted n w k = table (n * w) (λ p. set-at w k (p / w) (p % w))
 unfoldable pub in-row : ℕ → List Bool → ℕ → ℕ → Bool
 in-row w X s t = ltb t w && at X (s * w + t)
 
--- the raster of X: n rows of w bits in ceil(w / 8) bytes each, high bit first, padding 0
+-- the raster of X: n rows of w bits in ceil(w / 8) bytes each, high bit first, padding 0 (SPECIFICATION 11.2, 11.3)
 unfoldable pub raster : ℕ → ℕ → List Bool → List ℕ
 raster n w X = tab-from (λ i. byte-of (in-row w X (i / bytes-for w)) (i % bytes-for w)) 0 (n * bytes-for w)
 

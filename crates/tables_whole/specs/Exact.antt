@@ -50,7 +50,7 @@ module _ {A : Signature} (L R : Finite-system A) {keep holds lm rm : List ℕ} {
   starts k = ap (λ (s : ℕ). set-at w k s (sides .«right_start»)) (sym (G .left-start))
       ∙ ap (set-at w k (L .start)) (sym (G .right-start))
 
-  -- what the slices answer is document 01's answer about the relation that the raster denotes
+  -- what the slices answer is what is found in the relation that the raster denotes (SPECIFICATION 11.5)
   pub raster-answered : (k : List ℕ)
       → raster-answer keep holds lm rm sides k ≡ cond (set-at w k (L .start) (R .start))
       (answer-of (pairs-judged L R (set-at w k)) (ones (denoted n w k))) StartNotSet

@@ -1,4 +1,4 @@
--- A table as a file: the header, then the raster.
+-- A table as a file: the header, then the raster (SPECIFICATION 11.1).
 use mathlib.Core.Bool.{Bool}
 use mathlib.Core.List.{List, _++_}
 use Prim.Native.Nat.{ℕ}

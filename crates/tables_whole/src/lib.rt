@@ -11,7 +11,7 @@ ghost use Rattle.tables_header.specs.Header.{table-bytes};
 ghost use Rattle.tables_rows.specs.Given.{Slices};
 ghost use Rattle.tables_whole.specs.Answer.{raster-answer, Makes};
 
-// The number of pairs set, or the refusal: document 01's 18, 19 with (s, t), 20 with the step and (s, t).
+// The number of pairs set, or what is refused: 18, 19 with (s, t), 20 with the step and (s, t) (SPECIFICATION 13.1).
 pub enum TableAnswer {
     Accepted(usize),
     StartNotSet,

@@ -12,7 +12,8 @@ ghost use Rattle.search.specs.Outcome.{Outcome, Scratch};
 ghost use Rattle.tables.specs.Outcome.{Checked, Widened};
 ghost use Rattle.two_operations.specs.Outcome.{search-outcome, check-outcome, widest-outcome};
 
-// A shortest departure; keep gets the left's safe states, back and line are scratch, run gets the steps.
+// A shortest departure; keep gets the left's safe states, back and line are scratch, run gets the steps
+// (SPECIFICATION 12.4).
 pub fn search(
     left: &[u8],
     right: &[u8],
@@ -45,7 +46,7 @@ pub fn search(
     }
 }
 
-// The check of a given table; keep gets the left's safe states.
+// The check of a given table; keep gets the left's safe states (SPECIFICATION 12.5).
 pub fn check(
     left: &[u8],
     right: &[u8],
@@ -74,7 +75,7 @@ pub fn check(
     }
 }
 
-// The widest table; keep gets the left's safe states.
+// The widest table; keep gets the left's safe states (SPECIFICATION 12.6).
 pub fn widest(
     left: &[u8],
     right: &[u8],

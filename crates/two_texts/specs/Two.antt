@@ -1,5 +1,5 @@
 -- The two texts of an operation, the left (the draft) and the right (the contract), as their bytes: codes 1 to 12 in
--- document 01's order, and what an operation works on once they find nothing.
+-- their order, and what an operation works on once they find nothing (SPECIFICATION 9.1, 9.2, 13.2, 13.3).
 use mathlib.Core.Path.{_≡_, refl}
 use mathlib.Core.Bool.{cond}
 use mathlib.Core.Option.{Option, none, some}
@@ -27,16 +27,16 @@ use Rattle.limits.specs.Limits.{largest-text}
 abbrev pub text-of : List ℕ → Text
 text-of s = read-outcome s .text
 
--- code 1, with the mark of the file
+-- code 1, with the mark of the file (SPECIFICATION 4.3, 13.2)
 unfoldable pub too-long-in : ℕ → List ℕ → Option Refusal
 too-long-in file s = cond (ltb largest-text (length s)) (some (in-file file text-too-long)) none
 
--- codes 1 to 11, with the mark of the file
+-- codes 1 to 11, with the mark of the file (SPECIFICATION 13.2)
 unfoldable pub refused-in : ℕ → Verdict → Option Refusal
 refused-in file verdict.Accepted = none
 refused-in file (verdict.Refused r) = some (in-file file r)
 
--- code 12, which says itself which file it means
+-- code 12, which says itself which file it means (SPECIFICATION 9.1)
 unfoldable pub refused-pairing : Matched → Option Refusal
 refused-pairing Equal = none
 refused-pairing (Unmatched r) = some r
@@ -46,7 +46,7 @@ unfoldable pub or-else : Option Refusal → Option Refusal → Option Refusal
 or-else none later = later
 or-else (some r) later = some r
 
--- codes 1 to 11: "Code 1 comes before all reading, the left's and then the right's"; "Left is read before right"
+-- codes 1 to 11: both lengths, the left's first, then what reading the left finds, then the right (SPECIFICATION 13.3)
 unfoldable pub texts-judged : List ℕ → List ℕ → Option Refusal
 texts-judged left right =
     or-else (too-long-in left-file left)
@@ -54,25 +54,25 @@ texts-judged left right =
     (or-else (refused-in left-file (read-outcome left .answer))
     (refused-in right-file (read-outcome right .answer))))
 
--- code 12, of two accepted texts
+-- code 12, of two accepted texts (SPECIFICATION 9.1)
 unfoldable pub channels-judged : List ℕ → List ℕ → Option Refusal
 channels-judged left right = refused-pairing (unmatched left (text-of left) right (text-of right))
 
--- codes 1 to 12. None: both texts are accepted and have equal channels.
+-- codes 1 to 12 (SPECIFICATION 13.3). None: both texts are accepted and have equal channels.
 unfoldable pub two-judged : List ℕ → List ℕ → Option Refusal
 two-judged left right = or-else (texts-judged left right) (channels-judged left right)
 
--- the right's number of a step of the left: "Channels pair up by name"
+-- the right's number of a step of the left (SPECIFICATION 9.2)
 abbrev pub step-of : List ℕ → List ℕ → ℕ → ℕ
 step-of left right = right-step left (text-of left) right (text-of right)
 
--- what an operation works on: two accepted texts whose channels pair up, inputs with inputs
+-- what an operation works on: two accepted texts whose channels pair up, inputs with inputs (SPECIFICATION 7.4, 9.1)
 pub record Compared (left right : List ℕ) : Type 0 where
   pub left-text : Accepted (text-of left)
   pub right-text : Accepted (text-of right)
   pub inputs : (c : ℕ) → Input (signature (text-of left)) c → Input (signature (text-of right)) (step-of left right c)
 
--- the two texts by their state numbers, the right one's steps by the left's numbers
+-- the two texts by their state numbers, the right one's steps by the left's numbers (SPECIFICATION 9.2)
 abbrev pub left-system : {left right : List ℕ} → Compared left right → Finite-system (signature (text-of left))
 left-system {left} {right} c = system (text-of left) (c .left-text)
 
