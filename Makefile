@@ -4,28 +4,30 @@
 # make picture    shows the widest table as a picture (needs Netpbm)
 # make test       the gate: proves everything from nothing, tries every must-fail edit, runs the test programs
 # make definitions  holds docs/ against the files (needs python3)
-# make programs   runs the three programs on files at the limits (needs python3)
+# make programs   runs the three programs on some hundred pairs of files (needs python3)
+# make cases      writes the stored cases of the test programs anew (needs python3)
 # make library    the archive for C and Rust; c-example, differential and bench use it (cc; cargo)
 DRAFT ?= examples/Rearm.xta
 CONTRACT ?= examples/Post.xta
-TABLE ?= target/run/table.pbm
+# The file of the table; c-example writes one only where TABLE is given.
+TABLE_FILE := $(or $(TABLE),target/run/table.pbm)
 PICTURE ?= target/run/table.png
 LIBRARY := target/staticlib/libmegzhoi_c.a
 
-.PHONY: run table recheck picture test definitions library c-example differential bench
+.PHONY: run table recheck picture test definitions programs cases library c-example differential bench
 
 run:
 	@scripts/ask megzhoi "$(DRAFT)" "$(CONTRACT)"
 
 table:
-	@scripts/table "$(DRAFT)" "$(CONTRACT)" "$(TABLE)"
+	@scripts/table "$(DRAFT)" "$(CONTRACT)" "$(TABLE_FILE)"
 
 recheck:
-	@[ -f "$(TABLE)" ] || { echo "there is no table $(TABLE): make table writes one" >&2; exit 2; }
-	@scripts/ask recheck "$(DRAFT)" "$(CONTRACT)" "$(TABLE)"
+	@[ -f "$(TABLE_FILE)" ] || { echo "there is no table $(TABLE_FILE): make table writes one" >&2; exit 2; }
+	@scripts/ask recheck "$(DRAFT)" "$(CONTRACT)" "$(TABLE_FILE)"
 
 picture: table
-	@scripts/picture "$(TABLE)" "$(PICTURE)"
+	@scripts/picture "$(TABLE_FILE)" "$(PICTURE)"
 
 test:
 	@.ci/run
@@ -34,15 +36,25 @@ test:
 definitions:
 	@python3 tests/definitions.py
 
+# The programs on some hundred pairs of files, all that they print compared with an independent reading in Python.
+programs:
+	@scripts/prove megzhoi && scripts/prove widest && scripts/prove recheck
+	@python3 tests/programs.py
+
+# Writes the stored cases of the test programs, and what is expected of them, anew.
+cases:
+	@python3 tests/make_cases.py
+
 library: $(LIBRARY)
 
 $(LIBRARY): crates.txt $(shell find crates -name '*.rt' -o -name '*.antt')
 	@scripts/prove megzhoi_c staticlib
 
+# The program's status is 0 for YES, 1 for NO and 2 for a refusal or a fault: YES and NO are both answers.
 c-example: library
 	@mkdir -p target/run
 	@$(CC) -std=c11 -O2 -Wall -Wextra -Werror -o target/run/c-example library/example.c $(LIBRARY)
-	@target/run/c-example "$(DRAFT)" "$(CONTRACT)"
+	@target/run/c-example "$(DRAFT)" "$(CONTRACT)" $(if $(TABLE),"$(TABLE)") || { status=$$?; [ $$status = 1 ] || exit $$status; }
 
 differential: library
 	@cargo test --offline --release --quiet --package plain --package megzhoi

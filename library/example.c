@@ -1,52 +1,109 @@
-/* Checks a draft against a contract: prints NO with n and a step a line, YES, or a refusal.
-   The search needs 3 MB of stack, less than the 8 MB that a Linux process starts with. */
+/* Checks a draft against a contract with slices that are just long enough:
+
+       c-example DRAFT CONTRACT [TABLE]
+
+   prints NO with n and a step a line, or YES with the number of pairs of the widest table. The table is then written
+   to the file TABLE, if one is named, and checked again: ACCEPTED with the number of its pairs. A refusal is printed as
+   REFUSED with its code, file, p, q and what the code means.
+
+   Exit status: 0 for YES, 1 for NO, 2 for a refusal, a file that cannot be read or written, or wrong arguments. */
 #include <stdio.h>
+#include <stdlib.h>
 
 #include "megzhoi.h"
 
-enum { TEXT = 32769, QUEUE = 16384 };
+enum { YES = 0, NO = 1, FAILED = 2 };
 
-static uint8_t left[TEXT], right[TEXT], keep[MEGZHOI_KEEP_BYTES];
-static uint32_t back[QUEUE], line[QUEUE], run[QUEUE];
-static size_t record[MEGZHOI_RECORD_ENTRIES];
+/* A text with one byte of room to see that it is too long, and what reading it gives. */
+struct text {
+    uint8_t bytes[MEGZHOI_TEXT_LIMIT + 1];
+    size_t len;
+    size_t record[MEGZHOI_RECORD_ENTRIES];
+    size_t states;
+};
 
-/* An unreadable file counts as empty; one byte more than a text may have is enough to be refused. */
-static size_t load(const char *path, uint8_t *text) {
-    FILE *f = fopen(path, "rb");
-    size_t n = f ? fread(text, 1, TEXT, f) : 0;
-    if (f) fclose(f);
-    return n;
+static struct text left, right;
+
+static void fail(const char *what, const char *why) {
+    fprintf(stderr, "%s: %s\n", what, why);
+    exit(FAILED);
 }
 
+/* Memory for a slice; an empty one has a valid pointer too. */
+static void *slice(size_t entries, size_t size) {
+    void *memory = calloc(entries ? entries : 1, size);
+    if (!memory) fail("a slice", "no memory");
+    return memory;
+}
+
+/* Reads a file and then its text. A text that is refused has no states, and the search says what is wrong with it. */
+static void load(const char *path, struct text *text) {
+    FILE *f = fopen(path, "rb");
+    if (!f) fail(path, "cannot be read");
+    text->len = fread(text->bytes, 1, sizeof text->bytes, f);
+    if (ferror(f)) fail(path, "cannot be read");
+    fclose(f);
+    size_t file, p, q;
+    size_t code = megzhoi_read(text->bytes, text->len, text->record, MEGZHOI_RECORD_ENTRIES, &file, &p, &q);
+    text->states = code ? 0 : p;
+}
+
+static void save(const char *path, const uint8_t *table, size_t len) {
+    FILE *f = fopen(path, "wb");
+    if (!f || fwrite(table, 1, len, f) != len || fclose(f)) fail(path, "cannot be written");
+}
+
+static int refused(size_t code, size_t file, size_t p, size_t q) {
+    printf("REFUSED %zu %zu %zu %zu: %s\n", code, file, p, q, megzhoi_code_text(code));
+    return FAILED;
+}
+
+/* A step is 0 for a tick and else a channel of the left, which is spelled as the left spells it. */
 static void print_step(uint32_t step) {
     if (step == 0) {
         puts("tick");
         return;
     }
-    const size_t *channel = record + MEGZHOI_CHANNELS + MEGZHOI_CHANNEL_ENTRIES * (step - 1);
-    printf("%.*s%c\n", (int)channel[1], (const char *)left + channel[0], channel[2] == 1 ? '?' : '!');
+    const size_t *channel = left.record + MEGZHOI_CHANNELS + MEGZHOI_CHANNEL_ENTRIES * (step - 1);
+    printf("%.*s%c\n", (int)channel[1], (const char *)left.bytes + channel[0], channel[2] == 1 ? '?' : '!');
+}
+
+/* Makes the widest table, and checks it as someone would who was given it. */
+static int table_of_yes(uint8_t *keep, size_t keep_len, const char *path) {
+    size_t len = megzhoi_table_bytes(left.states, right.states);
+    uint8_t *table = slice(len, sizeof *table);
+    size_t file, p, q;
+    size_t code = megzhoi_widest(left.bytes, left.len, right.bytes, right.len, keep, keep_len, table, len,
+                                 &file, &p, &q);
+    if (code) return refused(code, file, p, q);
+    printf("YES %zu\n", p);
+    if (path) save(path, table, len);
+    code = megzhoi_check(left.bytes, left.len, right.bytes, right.len, keep, keep_len, table, len, &file, &p, &q);
+    if (code) return refused(code, file, p, q);
+    printf("ACCEPTED %zu\n", p);
+    free(table);
+    return YES;
 }
 
 int main(int argc, char **argv) {
-    if (argc != 3) {
-        fprintf(stderr, "usage: %s DRAFT CONTRACT\n", argv[0]);
-        return 2;
+    if (argc != 3 && argc != 4) fail("usage", "c-example DRAFT CONTRACT [TABLE]");
+    load(argv[1], &left);
+    load(argv[2], &right);
+    size_t keep_len = megzhoi_keep_bytes(left.states), pairs = megzhoi_queue_entries(left.states, right.states);
+    uint8_t *keep = slice(keep_len, sizeof *keep);
+    uint32_t *back = slice(pairs, sizeof *back), *line = slice(pairs, sizeof *line), *run = slice(pairs, sizeof *run);
+    size_t file, n, q;
+    size_t code = megzhoi_search(left.bytes, left.len, right.bytes, right.len, keep, keep_len, back, pairs,
+                                 line, pairs, run, pairs, &file, &n, &q);
+    int status = NO;
+    if (code) {
+        status = refused(code, file, n, q);
+    } else if (n == 0) {
+        status = table_of_yes(keep, keep_len, argc == 4 ? argv[3] : NULL);
+    } else {
+        printf("NO %zu\n", n);
+        for (size_t i = 0; i < n; i++) print_step(run[i]);
     }
-    size_t left_len = load(argv[1], left), right_len = load(argv[2], right);
-    size_t file, p, q;
-    size_t code = megzhoi_search(left, left_len, right, right_len, keep, sizeof keep, back, QUEUE, line, QUEUE,
-                                 run, QUEUE, &file, &p, &q);
-    if (code != 0) {
-        printf("REFUSED %zu %zu %zu %zu\n", code, file, p, q);
-        return 0;
-    }
-    if (p == 0) {
-        puts("YES");
-        return 0;
-    }
-    size_t n = p;
-    megzhoi_read(left, left_len, record, MEGZHOI_RECORD_ENTRIES, &file, &p, &q);
-    printf("NO %zu\n", n);
-    for (size_t i = 0; i < n; i++) print_step(run[i]);
-    return 0;
+    free(keep), free(back), free(line), free(run);
+    return status;
 }

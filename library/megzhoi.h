@@ -1,14 +1,21 @@
 /* Megzhoi's five operations for C: refinement of timed I/O contracts over whole ticks.
 
-   The archive is target/staticlib/libmegzhoi_c.a (make library). Each function is proved to return and to write
-   what crates/megzhoi_c says: the definitions are in crates/megzhoi_c/specs/Returned.antt and in the operations'
-   own crates.
+   docs/SPECIFICATION.md has the rules; its part 15 is about what is declared here. The archive is
+   target/staticlib/libmegzhoi_c.a (make library). Each function of it is proved to return and to write what
+   crates/megzhoi_c says: the definitions are in crates/megzhoi_c/specs and in the operations' own crates.
+   library/example.c is a whole program over it.
 
-   A call returns 0 or the code of a refusal, and writes three numbers: *file, *p and *q. On a refusal they are
-   the ones of the table below. On success *file is 0, and *p and *q are what the function says.
+   A call of an operation returns 0 or the code of a refusal, and writes three numbers: *file, *p and *q. On a
+   refusal they are the ones of the table below. On success *file is 0, and *p and *q are what the function says.
    Codes 1 to 16 leave every slice as it came. From 17 on keep is written, a table and the run are untouched, and
    back and line are untouched by 17 and free after 21. On success, entries past the written part keep their values.
    The archive needs memcpy and memset of the C library and nothing else.
+
+   How long the slices are: megzhoi_read gives the number of states of each text, and megzhoi_keep_bytes,
+   megzhoi_table_bytes and megzhoi_queue_entries make of these the lengths of keep, of a table, and of back and of
+   line. run needs as many entries as the departure has steps, which are at most left states * right states
+   (SPECIFICATION 17.3), so megzhoi_queue_entries is enough for it too. That slices of these lengths are never
+   refused as too short is proved (crates/megzhoi_c/specs/Enough.antt).
 
    What nothing checks. The caller sees to it that
    - each pointer is valid for its length, and writable where it is not const; an empty slice takes any pointer
@@ -16,8 +23,7 @@
    - lengths are in entries, not in bytes;
    - no slice that is written overlaps another slice, and file, p and q are valid, distinct and in none of them;
    - nothing else writes to a slice during the call;
-   - the thread has MEGZHOI_STACK bytes of stack left (measured need: read and safe states 0.2 MB, check and
-     widest 0.4 MB, search 2.4 MB);
+   - the thread has MEGZHOI_STACK bytes of stack left;
    - the program is an x86-64 Linux program, and the archive linked is the one that was proved.
    The calls share nothing: there are no globals, no allocation, no system calls. Calls on several threads at a
    time are fine as long as their slices differ. */
@@ -31,39 +37,74 @@
 extern "C" {
 #endif
 
-/* Codes of a refusal, with p and q. crates/refusals/specs/Refusals.antt defines each. *file is 1 for the left or
-   only text and 2 for the right in 1 to 12, 1 in 17, and 0 in every other. */
+/* Codes of a refusal, with p and q (SPECIFICATION 13); crates/refusals/specs/Refusals.antt defines each. *file is 1
+   for the left or only text and 2 for the right in 1 to 12, 1 in 17, and 0 in every other. */
 enum {
-    MEGZHOI_TEXT_TOO_LONG = 1,       /* (0, 0): over 32,768 bytes */
-    MEGZHOI_MISFIT = 2,              /* (byte place, 0): first token that does not fit, or the end */
-    MEGZHOI_NAME_TOO_LONG = 3,       /* (byte place, 0): over 31 bytes */
-    MEGZHOI_DECLARED_BEFORE = 4,     /* (byte place, 0): name declared before */
-    MEGZHOI_UNKNOWN_NAME = 5,        /* (byte place, 0): name undeclared or of the wrong kind */
-    MEGZHOI_CONSTANT_TOO_LARGE = 6,  /* (byte place, 0): constant over 1,000 */
-    MEGZHOI_TOO_MANY_ITEMS = 7,      /* (byte place, 0): first item over a count limit */
-    MEGZHOI_OTHER_MARK = 8,          /* (byte place, 0): channel used with the other mark */
-    MEGZHOI_TOO_MANY_STATES = 9,     /* (states, 0): over 4,096 states */
-    MEGZHOI_INPUT_WITHOUT_MOVE = 10, /* (state, channel): input without a move */
-    MEGZHOI_TWO_EDGES = 11,          /* (state, channel): two edges that give a move */
-    MEGZHOI_UNMATCHED_CHANNEL = 12,  /* (channel, 0): the other file lacks it or uses it the other way */
+    MEGZHOI_TEXT_TOO_LONG = 1,       /* (0, 0) */
+    MEGZHOI_MISFIT = 2,              /* (byte place, 0): the end's place is the length of the text */
+    MEGZHOI_NAME_TOO_LONG = 3,       /* (byte place, 0) */
+    MEGZHOI_DECLARED_BEFORE = 4,     /* (byte place, 0) */
+    MEGZHOI_UNKNOWN_NAME = 5,        /* (byte place, 0): also where `system` names another process */
+    MEGZHOI_CONSTANT_TOO_LARGE = 6,  /* (byte place, 0) */
+    MEGZHOI_TOO_MANY_ITEMS = 7,      /* (byte place, 0): of the first item over a limit, at its first name */
+    MEGZHOI_OTHER_MARK = 8,          /* (byte place, 0): of the channel's name in the later use */
+    MEGZHOI_TOO_MANY_STATES = 9,     /* (states, 0) */
+    MEGZHOI_INPUT_WITHOUT_MOVE = 10, /* (state, channel) */
+    MEGZHOI_TWO_EDGES = 11,          /* (state, channel) */
+    MEGZHOI_UNMATCHED_CHANNEL = 12,  /* (channel, 0): numbered as the marked text numbers it */
     MEGZHOI_KEEP_TOO_SHORT = 13,     /* (bytes needed, 0) */
-    MEGZHOI_TABLE_TOO_SHORT = 14,    /* (bytes needed, 0): the table to write */
-    MEGZHOI_QUEUE_TOO_SHORT = 15,    /* (entries needed, 0): back or line */
-    MEGZHOI_OTHER_TABLE = 16,        /* (0, 0): the given table's header or length differs */
-    MEGZHOI_START_NOT_SAFE = 17,     /* (start, 0): the left's start is not safe */
+    MEGZHOI_TABLE_TOO_SHORT = 14,    /* (bytes needed, 0) */
+    MEGZHOI_QUEUE_TOO_SHORT = 15,    /* (entries needed, 0) */
+    MEGZHOI_OTHER_TABLE = 16,        /* (0, 0) */
+    MEGZHOI_START_NOT_SAFE = 17,     /* (left start, 0) */
     MEGZHOI_START_PAIR_NOT_SET = 18, /* (left start, right start) */
-    MEGZHOI_PAIR_NOT_ALLOWED = 19,   /* (s, t): s is not safe or t's invariant is false */
-    MEGZHOI_RULE_BROKEN = 20,        /* (step, s * W + t): the pair breaks a rule, W the right's states */
-    MEGZHOI_RUN_TOO_SHORT = 21       /* (n, 0): run has fewer than n entries */
+    MEGZHOI_PAIR_NOT_ALLOWED = 19,   /* (left state, right state) */
+    MEGZHOI_RULE_BROKEN = 20,        /* (step, left state * right states + right state): the least step that fails */
+    MEGZHOI_RUN_TOO_SHORT = 21       /* (entries needed, 0) */
 };
+
+/* What a code means, in a few words; any number that no call returns is "no such code". */
+static inline const char *megzhoi_code_text(size_t code) {
+    switch (code) {
+    case 0: return "success";
+    case MEGZHOI_TEXT_TOO_LONG: return "the text has more than 32,768 bytes";
+    case MEGZHOI_MISFIT: return "a token does not fit, or the text ends too early";
+    case MEGZHOI_NAME_TOO_LONG: return "a name has more than 31 bytes";
+    case MEGZHOI_DECLARED_BEFORE: return "the name is declared already";
+    case MEGZHOI_UNKNOWN_NAME: return "the name is not declared, or is of another kind";
+    case MEGZHOI_CONSTANT_TOO_LARGE: return "a constant is over 1,000";
+    case MEGZHOI_TOO_MANY_ITEMS: return "there are more items than the limit allows";
+    case MEGZHOI_OTHER_MARK: return "the channel was used with the other mark before";
+    case MEGZHOI_TOO_MANY_STATES: return "the text has more than 4,096 states";
+    case MEGZHOI_INPUT_WITHOUT_MOVE: return "an input has no move";
+    case MEGZHOI_TWO_EDGES: return "two edges give a move for one channel";
+    case MEGZHOI_UNMATCHED_CHANNEL: return "the other text lacks the channel, or uses it in the other direction";
+    case MEGZHOI_KEEP_TOO_SHORT: return "keep is too short";
+    case MEGZHOI_TABLE_TOO_SHORT: return "the table to write is too short";
+    case MEGZHOI_QUEUE_TOO_SHORT: return "back or line is too short";
+    case MEGZHOI_OTHER_TABLE: return "the table's header or length is not that of these texts";
+    case MEGZHOI_START_NOT_SAFE: return "the start of the left is not safe";
+    case MEGZHOI_START_PAIR_NOT_SET: return "the pair of the starts is not set";
+    case MEGZHOI_PAIR_NOT_ALLOWED: return "the left state is not safe, or the right state's invariant is false";
+    case MEGZHOI_RULE_BROKEN: return "the pair breaks a rule";
+    case MEGZHOI_RUN_TOO_SHORT: return "run is too short";
+    default: return "no such code";
+    }
+}
+
+/* Bytes of the longest text that is not refused with 1. */
+#define MEGZHOI_TEXT_LIMIT 32768
 
 /* Enough for every text: bytes of keep. */
 #define MEGZHOI_KEEP_BYTES 512
 
-/* Stack that a call of any of the five may use, with room to spare. */
-#define MEGZHOI_STACK ((size_t)8 << 20)
+/* The stack that each call of an operation is to have, with room to spare. Measured with threads of given sizes, in
+   steps of 0.1 MB (100,000 bytes): 2.5 MB were enough for every call, 2.4 MB were not for the search, and the other
+   operations did with 0.4 MB. library/rust/tests/stack.rs tries it again. On Linux the first thread of a process
+   usually has 8 MB, and a thread that a Rust program starts has 2 MB. */
+#define MEGZHOI_STACK ((size_t)4 << 20)
 
-/* The record of a text as numbers: crates/reader_numbers/specs/Numbers.antt defines it. */
+/* The record of a text as numbers (SPECIFICATION 15.2); crates/reader_numbers/specs/Numbers.antt defines it. */
 enum {
     MEGZHOI_RECORD_ENTRIES = 3100,
 
@@ -104,7 +145,7 @@ size_t megzhoi_safe_states(const uint8_t *text, size_t text_len, uint8_t *keep, 
 
 /* Looks for a shortest run of the left that departs from the right. On success *p is n, the number of its steps,
    0 where there is none, and *q is 0; run gets the n steps, 0 for a tick and else the left's channel number. keep
-   gets the left's safe states. back and line are scratch of left states * right states entries each. */
+   gets the left's safe states. back and line are scratch. */
 size_t megzhoi_search(const uint8_t *left, size_t left_len, const uint8_t *right, size_t right_len,
                       uint8_t *keep, size_t keep_len, uint32_t *back, size_t back_len,
                       uint32_t *line, size_t line_len, uint32_t *run, size_t run_len,
@@ -121,6 +162,18 @@ size_t megzhoi_check(const uint8_t *left, size_t left_len, const uint8_t *right,
 size_t megzhoi_widest(const uint8_t *left, size_t left_len, const uint8_t *right, size_t right_len,
                       uint8_t *keep, size_t keep_len, uint8_t *table, size_t table_len,
                       size_t *file, size_t *p, size_t *q);
+
+/* The lengths of slices for texts of so many states: the least that is not refused with 13, 14 and 15. An accepted
+   text has 1 to 4,096 states; each of the three returns 0 where a number of states is another. */
+
+/* Bytes of keep: of the text whose safe states are written, in an operation on two texts the left's. */
+size_t megzhoi_keep_bytes(size_t states);
+
+/* Bytes of a table, header and raster. */
+size_t megzhoi_table_bytes(size_t left_states, size_t right_states);
+
+/* Entries of back, and of line. */
+size_t megzhoi_queue_entries(size_t left_states, size_t right_states);
 
 #ifdef __cplusplus
 }

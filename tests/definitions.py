@@ -1,12 +1,13 @@
 #!/usr/bin/env python3
-"""Shows that no definition a reader must believe rests on one that docs/PROMISES.md does not list.
+"""Shows that no definition a reader must believe rests on one that docs/PROMISES.md does not list, and that what is cited is there.
 
 A definition is what a proof can look into: `unfoldable`, `abbrev`, a record or a data type. A plain `pub name : type` is
 opaque: only its type is seen, which the prover has checked, so it is a law. For every listed file this holds:
 - it is there, and has no public law of its own;
 - what it takes from an unlisted file of the project is a law there;
 - the structs and enums it speaks of stand in src/, where the reader finds them.
-And every must-fail edit stands in docs/PROMISES.md, and every edit that it names is there.
+And every must-fail edit stands in docs/PROMISES.md, and every edit that it names is there; every clause that a file cites, as
+SPECIFICATION with its number, stands in docs/SPECIFICATION.md; and no file names a paper that is not in the repository.
 Run it at the repository's root; the exit status is 0 when all of it holds.
 """
 import os
@@ -14,6 +15,11 @@ import re
 import sys
 
 USE = re.compile(r"^(?:ghost )?use Rattle·(\w+?)(?:·specs)?\.specs(?:\.specs)?\.(\w+)(?:\.\{([^}]*)\}| as ([\w-]+));?$", re.M)
+GAP = r"(?: |\s*\n\s*(?://[/!]?|--|#|\*)?\s*)"  # a space, or a line's end inside a comment
+CLAUSE = r"\d+(?:\.\d+)?"
+CITED = re.compile(rf"SPECIFICATION{GAP}({CLAUSE}(?:(?:,|{GAP}and|{GAP}to|,{GAP}and){GAP}{CLAUSE})*)")
+OUTSIDE = re.compile(rf"[Dd]ocuments?{GAP}0[12]|\.\./shared|[R]EADINGS|[D]ESIGN\.md|[P]ROVING|[T]ODO-CLAUSE")
+SPECIFICATION = os.path.join("docs", "SPECIFICATION.md")
 
 
 def listed():
@@ -85,6 +91,47 @@ def edits():
     return sorted(there - named), sorted(n for n in named - there if n.split("/")[0] in os.listdir("crates"))
 
 
+def every_file():
+    """The repository's files as text: (path, text). What rt, cargo and git make is left out."""
+    for folder, inner, names in os.walk("."):
+        inner[:] = sorted(name for name in inner if name not in ("target", ".git", ".drafts", "__pycache__"))
+        for name in sorted(names):
+            where = os.path.relpath(os.path.join(folder, name))
+            with open(where, encoding="utf-8", errors="replace") as file:
+                yield where, file.read()
+
+
+def clauses():
+    """The clauses, bold numbers where a line begins, and the parts, numbered headings; none where the page is not there."""
+    if not os.path.exists(SPECIFICATION):
+        return set()
+    with open(SPECIFICATION, encoding="utf-8") as file:
+        text = file.read()
+    return set(re.findall(r"^\*\*(\d+\.\d+)\*\*", text, re.M)) | set(re.findall(r"^## (\d+)\. ", text, re.M))
+
+
+def cited(where, text):
+    """The clauses that a text cites, each with the place; in the specification itself also those that stand in brackets."""
+    several = [(m.start(), m.group(1)) for m in CITED.finditer(text)]
+    found = [(at, clause) for at, part in several for clause in re.findall(CLAUSE, part)]
+    if where == SPECIFICATION:
+        brackets = [(m.start(), m.group(1)) for m in re.finditer(r"\(([^()\n]*)\)", text)]
+        found += [(at, clause) for at, part in brackets for clause in re.findall(r"(?<![\d.,])\d+\.\d+(?![\d.])", part)]
+    return found
+
+
+def papers():
+    """Clauses that are cited and not there, and papers outside the repository that are named, a line for each; the citations counted."""
+    there, wrong, count = clauses(), [], 0
+    for where, text in every_file():
+        found = cited(where, text)
+        count += len(found)
+        faults = [(at, f"cites clause {clause}, which {SPECIFICATION} does not have") for at, clause in found if clause not in there]
+        faults += [(m.start(), f"names {' '.join(m.group().split())}, which the repository does not have") for m in OUTSIDE.finditer(text)]
+        wrong += [f"{where}:{text.count(chr(10), 0, at) + 1}: {what}" for at, what in sorted(faults)]
+    return wrong, count
+
+
 def main():
     files = listed()
     believed = set(files)
@@ -105,8 +152,11 @@ def main():
         print(f"{edit}: a must-fail edit that docs/PROMISES.md does not name")
     for edit in missing:
         print(f"{edit}: named in docs/PROMISES.md, but not there")
-    faults += len(unnamed) + len(missing)
-    print(f"{len(files)} files of definitions, {faults} faults")
+    wrong, citations = papers()
+    for line in wrong:
+        print(line)
+    faults += len(unnamed) + len(missing) + len(wrong)
+    print(f"{len(files)} files of definitions, {citations} citations of clauses, {faults} faults")
     return 1 if faults else 0
 
 

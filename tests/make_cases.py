@@ -1,201 +1,273 @@
 #!/usr/bin/env python3
 """make_cases: write the data and the expected output of the test programs from tests/reference.py.
 
-crates/test_clocks gets texts on stdin, a `#` between two. crates/test_operations gets cases in data/cases.
-
-Each case is one call of an operation over two texts. In the file it is: the operation's letter, eight numbers of two bytes, low first
-(lengths of left, right, the given table, keep, the table to write, back, line, run), then the bytes of left, right and the given table.
-The letters: D search, L search with a right text of 65,536 bytes that the program supplies, C check, W widest table.
-Everything that is lent begins as a fixed pattern, so that what an operation leaves alone can be seen in the output.
+crates/test_reader has its texts in stdin, written by hand; only its expected output is written here.
+crates/test_clocks gets texts on stdin, a `#` between two.
+crates/test_operations gets data/cases, records of a letter, six numbers of three bytes, low first, and bytes:
+- T, the two texts that the calls after it are about: length of the left, its length with spaces after it, the same for the
+  right, and twice 0; then the left's bytes and the right's;
+- a call: R reading and S safe states (of the left), D search, C check, W widest table; lengths of keep, of the table to write,
+  of back, line and run, and of the given table; then the given table's bytes.
+Everything that is lent begins as a fixed pattern, so that what an operation leaves alone is seen in the output. A slice with more
+than 64 items is shown as its length and a sum (`summed`).
 """
 import random
 from collections import Counter
 from pathlib import Path
 
 import reference as ref
+from texts import (POST, POSTS, beat, clocked, counts, damaged, faults, late, random_text, rows, swapped, telling_pairs)
 
-HERE = Path(__file__).parent
+CRATES = Path(__file__).parent.parent / "crates"
 KEEP, ENTRY = 0xA5, 77  # what lent bytes and entries begin as
-POSTS = {p.stem: p.read_bytes() for p in sorted((HERE.parent / "examples").glob("*.xta"))}
+WHOLE = 64  # so many items are shown whole
+MOST = dict(keep=520, room=16384, back=131072, line=131072, run=512, data=524288)  # the room that test_operations has
+LONG = ref.LIMITS["text"]
 
 
-def constraint(rng, clocks, signs, most):
-    return " && ".join(f"{rng.choice(clocks)} {rng.choice(signs)} {rng.randrange(most + 1)}" for _ in range(rng.choice((1, 1, 2))))
+def summed(items):
+    total = 0
+    for item in items:
+        total = (total * 257 + item + 1) % 1000000007
+    return f"{len(items)}:{total}"
 
 
-def random_text(rng, channels, clocks, most):
-    """A small text. Each input has an unguarded edge in each location, so most texts are accepted."""
-    locations = [f"L{i}" for i in range(rng.choice((1, 2, 2, 3)))]
-    declared = [l + (f" {{ {constraint(rng, clocks, ['<='], most)} }}" if clocks and rng.random() < 0.4 else "") for l in locations]
-    edges = []
-
-    def edge(source, guard, label):
-        assign = f"assign {rng.choice(clocks)} = 0; " if clocks and rng.random() < 0.5 else ""
-        edges.append(f"{source} -> {rng.choice(locations)} {{ {guard}sync {label}; {assign}}}")
-    for name, mark in channels:
-        for source in locations:
-            if mark == "?":
-                if clocks and rng.random() < 0.3:
-                    bound = rng.randrange(most)
-                    edge(source, f"guard {clocks[0]} <= {bound}; ", name + mark)
-                    edge(source, f"guard {clocks[0]} >= {bound + 1}; ", name + mark)
-                else:
-                    edge(source, "", name + mark)
-                    if rng.random() < 0.04:
-                        edge(source, "", name + mark)
-            elif rng.random() < 0.7:
-                guard = f"guard {constraint(rng, clocks, ['<=', '>=', '=='], most)}; " if clocks and rng.random() < 0.6 else ""
-                edge(source, guard, name + mark)
-    out = f"broadcast chan {', '.join(n for n, _ in channels)};\n" if channels else ""
-    out += "process P() {\n" + (f"clock {', '.join(clocks)};\n" if clocks else "")
-    out += f"state {', '.join(declared)};\ninit {rng.choice(locations)};\n"
-    out += f"trans {', '.join(edges)};\n" if edges else ""
-    return (out + "}\nsystem P;\n").encode()
+def shown(items, whole):
+    return "-" if not items else whole(items) if len(items) <= WHOLE else summed(items)
 
 
-def damaged(rng, text):
-    at = rng.randrange(len(text))
-    return rng.choice((text[:at] + text[at + 1:], text[:at] + bytes([rng.randrange(128)]) + text[at + 1:], text[:at]))
+def shown_bytes(items):
+    return shown(items, bytes.hex)
 
 
-def random_pair(rng):
-    channels = [(f"c{i}", rng.choice("?!")) for i in range(rng.choice((1, 2, 2, 3)))]
-    clocks = ["x", "y"][:rng.choice((0, 1, 1, 1, 2))]
-    most = rng.choice((1, 2))
-    left = random_text(rng, channels, clocks, most)
-    if rng.random() < 0.15:
-        channels = channels[:-1] or channels
-    right = random_text(rng, rng.sample(channels, len(channels)), clocks, most)
-    if rng.random() < 0.25:
-        right = left
-    if rng.random() < 0.12:
-        left = damaged(rng, left)
-    if rng.random() < 0.12:
-        right = damaged(rng, right)
-    return left, right
-
-
-def small(left, right):
-    try:
-        return ref.Two(left, right).pairs <= 900
-    except ref.Refused as r:
-        return r.answer[0] != 9 or r.answer[2] < 5000
+def shown_entries(items):
+    return shown(items, lambda s: ",".join(map(str, s)))
 
 
 class Cases:
     def __init__(self):
-        self.data, self.lines = b"", []
+        self.data, self.lines, self.given, self.codes = b"", [], None, set()
 
-    def add(self, letter, left, right=b"", table=b"", keep=8, room=0, back=0, line=0, run=0):
-        for n in (len(left), len(right), len(table), keep, room, back, line, run):
-            assert n < 65536
-        self.data += letter.encode() + b"".join(n.to_bytes(2, "little") for n in (len(left), len(right), len(table), keep, room, back, line, run))
-        self.data += left + right + table
+    def texts(self, left, right=b"", left_full=0, right_full=0):
+        """The texts of the next calls, with spaces after them up to a full length."""
+        fulls = max(left_full, len(left)), max(right_full, len(right))
+        if self.given != (left, right, fulls):
+            self.record("T", (len(left), fulls[0], len(right), fulls[1], 0, 0), left + right)
+        self.given = (left, right, fulls)
+        self.left, self.right = left.ljust(fulls[0]), right.ljust(fulls[1])
+
+    def record(self, letter, numbers, rest):
+        self.data += letter.encode() + b"".join(n.to_bytes(3, "little") for n in numbers) + rest
+
+    def call(self, letter, keep=8, room=0, back=0, line=0, run=0, table=b""):
+        """One call; the answer, and the table that was made."""
+        lengths = dict(keep=keep, room=room, back=back, line=line, run=run)
+        assert all(0 <= n <= MOST[name] for name, n in lengths.items()), lengths
+        self.record(letter, (*lengths.values(), len(table)), table)
         kept, made, steps = bytes([KEEP]) * keep, bytes([KEEP]) * room, [ENTRY] * run
-        if letter in "DL":
-            answer, kept, steps = ref.search(left, right if letter == "D" else bytes(65536), kept, back, line, steps)
+        left, right = self.left, self.right
+        if letter == "R":
+            try:
+                answer = (ref.read(left).count,)
+            except ref.Refused as r:
+                answer = r.answer
+        elif letter == "S":
+            answer, kept = ref.safe_states(left, kept)
+        elif letter == "D":
+            answer, kept, steps = ref.search(left, right, kept, back, line, steps)
             answer = answer if isinstance(answer, tuple) else (answer,)
         elif letter == "C":
             answer, kept = ref.check(left, right, kept, table)
-        elif letter == "W":
+        else:
             answer, kept, made = ref.widest(left, right, kept, made)
-        word = "refused" if len(answer) == 4 else "done"
-        parts = [letter, word, *map(str, answer), "keep", kept.hex() or "-"]
-        if letter == "W":
-            parts += ["table", made.hex() or "-"]
-        if letter in "DL":
-            parts += ["run", ",".join(map(str, steps)) or "-"]
-            if word == "refused" and answer[0] != 21:  # back and line are as they came
-                parts += ["kept", "kept"]
-        self.lines.append(" ".join(parts))
+        self.show(letter, answer, kept, made, steps)
         return answer, made
 
-    def write(self, crate):
-        folder = HERE.parent / "crates" / crate
-        (folder / "data").mkdir(parents=True, exist_ok=True)
+    def show(self, letter, answer, kept, made, steps):
+        refused = len(answer) == 4
+        parts = [letter, "refused" if refused else "done", *map(str, answer)]
+        parts += ["keep", shown_bytes(kept)] if letter != "R" else []
+        parts += ["table", shown_bytes(made)] if letter == "W" else []
+        parts += ["run", shown_entries(steps)] if letter == "D" else []
+        if letter == "D" and refused and answer[0] != 21:  # back and line are as they came
+            parts += ["kept", "kept"]
+        self.lines.append(" ".join(parts))
+        if refused:
+            self.codes.add((letter, answer[0], answer[1]))
+
+    def write(self):
+        folder = CRATES / "test_operations"
+        assert len(self.data) <= MOST["data"]
         (folder / "data" / "cases").write_bytes(self.data)
         (folder / "stdout").write_text("\n".join(self.lines) + "\n")
-        print(crate, len(self.lines), "cases,", len(self.data), "bytes")
-        codes = sorted({l.split()[2] for l in self.lines if l.split()[1] == "refused"}, key=int)
-        print("codes", *codes)
+        print("test_operations", len(self.lines), "cases,", len(self.data), "bytes;",
+              *(f"{k}: {n}" for k, n in sorted(Counter(" ".join(l.split()[:2]) for l in self.lines).items())))
 
 
-def searches(cases, count=90, most=32000, seed=1):
-    """The search: document 01's pairs, each refusal, lengths at and just below what is needed, random pairs."""
-    rng, P = random.Random(seed), POSTS
-    for left, right in (("Post", "Post"), ("Rearm", "Post"), ("Early", "Post"), ("Idle", "Post"), ("Post", "Idle"), ("Post", "Hush"), ("Hush", "Post")):
-        cases.add("D", P[left], P[right], keep=3, back=100, line=100, run=6)
-    for keep, back, line, run in ((1, 100, 100, 6), (2, 99, 100, 6), (2, 100, 99, 6), (2, 100, 100, 4), (2, 100, 100, 5), (0, 0, 0, 0)):
-        cases.add("D", P["Rearm"], P["Post"], keep=keep, back=back, line=line, run=run)
-    cases.add("D", P["Hush"], P["Post"], keep=2, back=99, line=100)
-    cases.add("D", b"", b"")
-    cases.add("L", P["Post"], keep=2, back=100, line=100, run=2)  # the right's code 1, also before the left's 2
-    cases.add("L", b"", keep=2, run=2)
-    cases.add("D", P["Post"], P["Post"][:-3], keep=2, back=100, line=100)
-    cases.add("D", P["Post"], P["Post"].replace(b"late", b"tardy"), keep=2, back=100, line=100)
-    cases.add("D", P["Hush"].replace(b", late", b""), P["Post"], keep=2, back=100, line=100)
-    # codes 3 to 9 and 11, in the left text and in the right one
-    bad = [P["Post"].replace(b"Wait ->", b"W" * 32 + b" ->", 1), P["Post"].replace(b"clock x", b"clock late"), P["Post"].replace(b"init Wait", b"init late"),
-           P["Post"].replace(b"x >= 3", b"x >= 1001"), P["Post"].replace(b"x <= 3", b"x <= 3 && x <= 3 && x <= 3 && x <= 3 && x <= 3"),
-           P["Post"].replace(b"Done -> Done { sync pass?", b"Done -> Done { sync late?"), P["Post"].replace(b"clock x", b"clock x, y").replace(b"x >= 3", b"x >= 1000 && y >= 3"),
-           P["Post"].replace(b"Done -> Done { sync pass?; },", b"Done -> Done { sync pass?; }, Done -> Wait { sync pass?; assign x = 0; },")]
-    found = [cases.add("D", *pair, keep=2, back=3, line=3, run=1)[0][0] for text in bad for pair in ((text, b""), (P["Post"], text))]
-    assert found == [c for c in (3, 4, 5, 6, 7, 8, 9, 11) for _ in "lr"], found
-    while len(cases.lines) < count and len(cases.data) < most:
-        left, right = random_pair(rng)
-        if small(left, right):
-            try:
-                pairs = ref.Two(left, right).pairs
-            except ref.Refused:
-                pairs = 4
-            cases.add("D", left, right, keep=rng.choice((6, 6, 6, 6, 1)), back=pairs + rng.choice((0, 0, 0, 1, -1)), line=pairs + 2, run=rng.choice((0, 2, 9, 9, 9)))
+def size(left_states, right_states):
+    """The bytes of a table."""
+    return len(ref.header(right_states, left_states)) + left_states * ((right_states + 7) // 8)
 
 
-def tables(cases, count=90, most=64000, seed=2):
-    """Widest and check: document 01's tables, each refusal, made, damaged and random tables of random pairs."""
-    rng, P = random.Random(seed), POSTS
-    first = len(cases.lines)
-    post = P["Post"]
-    cases.add("W", post, post, keep=3, room=31)
-    cases.add("W", post, post, keep=2, room=28)
-    cases.add("W", post, post, keep=1, room=28)
-    cases.add("W", P["Rearm"], post, keep=2, room=29)
-    cases.add("W", P["Hush"], post, keep=2, room=29)
-    cases.add("W", P["Hush"], post, keep=2, room=28)
-    cases.add("W", post, P["Idle"], keep=2, room=30)
-    head = ref.header(10, 10)
-    safe = sorted(ref.Text(post).safe())
-    diagonal = head + ref.raster({(s, s) for s in safe}, 10, 10)
+def every_code():
+    """(operation, code, file) for each that can come."""
+    texts = [(c, f) for c in range(1, 13) for f in (1, 2)]
+    one = [(c, 1) for c in range(1, 12)]
+    codes = {"R": one, "S": one + [(13, 0)], "D": texts + [(13, 0), (15, 0), (17, 1), (21, 0)],
+             "C": texts + [(13, 0), (16, 0), (17, 1), (18, 0), (19, 0), (20, 0)], "W": texts + [(13, 0), (14, 0), (17, 1)]}
+    return {(o, c, f) for o, found in codes.items() for c, f in found}
+
+
+def two_texts(cases, left, right, run=12):
+    """The calls over two texts with slices just long enough: search, widest table, and the check of that table."""
+    cases.texts(left, right)
+    h, w = counts(left, right) or (8, 8)
+    cases.call("D", keep=(h + 7) // 8, back=h * w, line=h * w, run=run)
+    answer, made = cases.call("W", keep=(h + 7) // 8, room=size(h, w))
+    if answer[1:] != (0,):  # else the check ends at the start pair
+        cases.call("C", keep=(h + 7) // 8, table=made)
+
+
+def examples(cases):
+    """Every example against every other."""
+    for left in POSTS.values():
+        cases.texts(left)
+        cases.call("R")
+        cases.call("S")
+        for right in POSTS.values():
+            two_texts(cases, left, right)
+
+
+def refusals_of_texts(cases):
+    """Codes 1 to 12, in the left and in the right text, for each operation that can give them."""
+    def all_calls(left, right, *full, one=True):
+        cases.texts(left, right, *full)
+        for letter in "RSDCW" if one else "DCW":
+            cases.call(letter, keep=2, room=29, back=100, line=100, run=3)
+    for bad in faults().values():
+        all_calls(bad, POST)
+        all_calls(POST, bad, one=False)
+    for n in (LONG, LONG + 1, 65536):  # code 1 at the limit, and beyond
+        all_calls(POST, POST, n, 0)
+        all_calls(POST, POST, 0, n, one=False)
+    more, less = swapped(POST, (b", late", b", late, extra")), POSTS["Hush"].replace(b", late", b"")
+    turned = swapped(POST, (b"late!", b"late?"), (b"guard x >= 3; ", b""), (b"}, Done;", b"}, Done;")).replace(
+        b"Done -> Done { sync spike?; };", b"Done -> Done { sync spike?; }, Done -> Done { sync late?; };")
+    other = swapped(POST, (b"late", b"tardy"))
+    for left, right in ((POST, other), (more, POST), (POST, more), (less, POST), (POST, less), (POST, turned), (turned, POSTS["Idle"])):
+        all_calls(left, right, one=False)
+
+
+def orders(cases):
+    """Two reasons at once: which one is judged first (SPECIFICATION 13.3)."""
+    bad = faults()
+    both = [(bad[2], bad[2]), (bad[11], bad[2]), (bad[11], bad[10]), (bad[9], bad[3]), (bad[10], swapped(POST, (b"late", b"tardy")))]
+    for left, right in both:
+        cases.texts(left, right)
+        for letter in "DCW":
+            cases.call(letter, keep=0)
+    for left, right, full in ((b"", b"", (0, LONG + 1)), (bad[2], POST, (LONG + 1, LONG + 1)), (bad[11], bad[2], (0, LONG + 1))):
+        cases.texts(left, right, *full)
+        for letter in "DCW":
+            cases.call(letter, keep=0)
+    hush = POSTS["Hush"]
+    cases.texts(hush, POST)
+    diagonal = ref.header(10, 10) + ref.raster({(s, s) for s in range(10)}, 10, 10)
+    for keep, back, line, run in ((1, 99, 99, 0), (2, 99, 100, 0), (2, 100, 99, 0), (2, 100, 100, 0), (2, 101, 100, 5)):
+        cases.call("D", keep=keep, back=back, line=line, run=run)
+    for keep, room in ((1, 28), (2, 28), (2, 29), (3, 30)):
+        cases.call("W", keep=keep, room=room)
+    for keep, table in ((1, diagonal[:-1]), (2, diagonal[:-1]), (2, diagonal), (2, diagonal[:-20] + bytes(20)), (3, diagonal)):
+        cases.call("C", keep=keep, table=table)
+    cases.texts(POST, swapped(POST, (b"late", b"tardy")))  # 12 before 13
+    for letter in "DCW":
+        cases.call(letter, keep=0)
+
+
+def lengths(cases):
+    """Each slice one short, just long enough and one longer, for tables and keeps of several forms."""
+    three = clocked((1, 1, 1), (1, 2))
+    pairs = [(POSTS["Rearm"], POST), (three, clocked((1, 1, 1), (1,))), (rows(9, 0, 0), rows(8, 0, 0))]
+    for left, right in pairs:
+        cases.texts(left, right)
+        h, w = counts(left, right)
+        keep, entries, bytes_made = (h + 7) // 8, h * w, size(h, w)
+        n = cases.call("D", keep=keep, back=entries, line=entries, run=12)[0][0]
+        for k in {keep - 1, keep + 1, 0}:
+            cases.call("S", keep=k)
+            cases.call("D", keep=k, back=entries, line=entries, run=12)
+            cases.call("W", keep=k, room=bytes_made)
+        cases.call("S", keep=keep)
+        for back, line in ((entries - 1, entries), (entries, entries - 1), (entries - 1, entries - 1), (entries + 1, entries + 3), (0, 0)):
+            cases.call("D", keep=keep, back=back, line=line, run=12)
+        for run in {max(n - 1, 0), n, n + 1, 0}:
+            cases.call("D", keep=keep, back=entries, line=entries, run=run)
+        for room in (bytes_made - 1, bytes_made + 1, 0):
+            cases.call("W", keep=keep, room=room)
+        made = cases.call("W", keep=keep, room=bytes_made)[1]
+        for k, table in ((keep - 1, made), (keep, made), (keep + 1, made), (keep, made[:-1]), (keep, made + b"\0"), (keep, b"")):
+            cases.call("C", keep=k, table=table)
+
+
+def tables(cases):
+    """Given tables with one fault each: headers, the start pair, pairs that may not stand, pairs that break a rule at each kind of step."""
+    head, safe = ref.header(10, 10), sorted(ref.Text(POST).safe())
+    same = {(s, s) for s in safe}
+
+    def raster(pairs):
+        return head + ref.raster(pairs, 10, 10)
+    diagonal = raster(same)
+    rest = diagonal[len(head):]
     noise = bytes(b | 0x3F if i >= len(head) and (i - len(head)) % 2 else b for i, b in enumerate(diagonal))
-    for table in (diagonal, noise, head + ref.raster({(0, 0)}, 10, 10), head + ref.raster(set(), 10, 10),
-                  head + ref.raster({(s, s) for s in safe} | {(4, 4)}, 10, 10), head + ref.raster({(s, s) for s in safe} | {(5, 4)}, 10, 10),
-                  diagonal[:-1], diagonal + b"\0", b"", b"P4\n010 10\n" + diagonal[len(head):], b"P4 10 10\n" + diagonal[len(head):], b"P1\n10 10\n" + diagonal[len(head):]):
-        cases.add("C", post, post, table, keep=3)
-    cases.add("C", post, post, diagonal, keep=1)
-    cases.add("C", P["Hush"], post, diagonal, keep=2)
-    cases.add("C", P["Hush"], post, diagonal[:-1], keep=2)
-    cases.add("C", b"", b"", diagonal)
-    other = post.replace(b"late", b"tardy")  # 12
-    cases.add("C", post, other, diagonal, keep=2)
-    cases.add("W", post, other, keep=2, room=29)
-    while len(cases.lines) - first < count and len(cases.data) < most:
-        left, right = random_pair(rng)
-        if not small(left, right):
-            continue
-        try:
-            two = ref.Two(left, right)
-            w, h = two.right.count, two.left.count
-        except ref.Refused:
-            w = h = 1
-        size = len(ref.header(w, h)) + h * ((w + 7) // 8)
-        answer, made = cases.add("W", left, right, keep=rng.choice((6, 6, 6, 6, 1)), room=size + rng.choice((0, 0, 0, 3, -1)))
-        if len(answer) == 2:
-            table = bytearray(made[:size])
+    heads = [b"P4\n010 10\n", b"P4\n10 010\n", b"P4 10 10\n", b"P1\n10 10\n", b"P4\n10 10 ", b"P4\n10  10\n", b"P4\n10 10\r\n",
+             b"P4\n#\n10 10\n", b"P4\n9 10\n", b"P4\n10 9\n", b"P4\n11 10\n", b"P4\n+10 10\n", b"P4\n0 0\n", b"p4\n10 10\n"]
+    more = [{(4, 4)}, {(5, 4)}, {(4, 5)}, {(1, 0)}, {(0, 1)}, {(9, 9), (9, 0)}, {(s, t) for s in range(10) for t in range(10)}]
+    less = [{(0, 0)}, {(3, 3)}, {(5, 5)}, {(9, 9)}]
+    given = [diagonal, noise, raster({(0, 0)}), raster(set()), *(raster(same | pairs) for pairs in more), *(raster(same - pairs) for pairs in less)]
+    cases.texts(POST, POST)
+    for table in given + [h + rest for h in heads] + [diagonal[:3], head, diagonal[:-1] + b"\x3f"]:
+        cases.call("C", keep=3, table=table)
+    # the right lists its channels in another order: 20 goes by the left's numbers
+    cases.texts(POST, swapped(POST, (b"pass, spike, late", b"late, spike, pass")))
+    for table in given[:8]:
+        cases.call("C", keep=2, table=table)
+
+
+def random_pairs(cases, seed):
+    """Random texts of each kind, with lengths around what is needed, and made, damaged and random tables."""
+    rng = random.Random(seed)
+    for left, right in telling_pairs(rng):
+        cases.texts(left, right)
+        h, w = counts(left, right) or (1, 1)
+        keep, front = (h + 7) // 8, len(ref.header(w, h))
+        cases.call("D", keep=keep, back=h * w, line=h * w + rng.choice((0, 2)), run=rng.choice((2, 9, 9, 9)))
+        answer, made = cases.call("W", keep=keep + rng.choice((0, 1)), room=size(h, w) + rng.choice((0, 0, 3)))
+        if len(answer) == 2 and (answer[1] or rng.random() < 0.2):  # else the check ends at the start pair
+            table = bytearray(made[:size(h, w)])
             for _ in range(rng.choice((0, 0, 1, 2))):
-                table[rng.randrange(size)] ^= 128 >> rng.randrange(8)
-            cases.add("C", left, right, bytes(table), keep=6)
-            full = ref.header(w, h) + bytes(rng.randrange(256) for _ in range(size - len(ref.header(w, h))))
-            cases.add("C", left, right, full, keep=6)
+                table[rng.randrange(front, len(table))] ^= 128 >> rng.randrange(8)
+            cases.call("C", keep=keep, table=bytes(table))
+        if len(answer) == 2 and rng.random() < 0.2:
+            cases.call("C", keep=keep, table=ref.header(w, h) + bytes(rng.randrange(256) for _ in range(size(h, w) - front)))
+
+
+def many_states(cases):
+    """Texts about as large as the limit between small and large slices (256 states), on one side or on both."""
+    rearm = POSTS["Rearm"]
+    pairs = [(late(126), late(126)), (late(127), late(126)), (late(126), late(127)), (late(148, rearm), late(148)), (late(148), late(148)),
+             (POST, late(148)), (late(148), POST), (beat(254), beat(255)), (beat(255), beat(254)), (beat(255, False), beat(255)),
+             (clocked((15, 15), (0,)), clocked((15, 15), (1,))), (clocked((5, 4, 5), ()), clocked((5, 4, 5), (), 1)),
+             (rows(32, 8), rows(2, 3))]
+    for i, (left, right) in enumerate(pairs):
+        two_texts(cases, left, right, run=200)
+        if i % 4:
+            continue
+        cases.call("S", keep=60)
+        h, w = counts(left, right)
+        cases.call("D", keep=(h + 7) // 8, back=h * w - 1, line=h * w, run=3)
+        cases.call("D", keep=(h + 7) // 8, back=h * w, line=h * w, run=1)
+        cases.call("W", keep=(h + 7) // 8 + 1, room=size(h, w) - 1)
+        cases.call("W", keep=(h + 7) // 8 - 1, room=size(h, w))
 
 
 def reading_line(text):
@@ -214,39 +286,127 @@ def reading_line(text):
     return f"{read} |{safe(1)} |{safe(512)}"
 
 
-def readings(count=170, seed=3):
-    """Reading and safe states: the examples, document 01's posts on reading, random texts."""
-    def row(places, bound):
-        names = ", ".join(f"l{i}" + (f" {{ x <= {bound} }}" if i == 0 else "") for i in range(places))
-        return f"process P() {{ clock x; state {names}; init l0; }} system P;".encode()
-    post, rng = POSTS["Post"], random.Random(seed)
-    wait = b"Wait -> Wait { sync spike?; },\n"
-    texts = [b"", *POSTS.values(), row(1, 1000), row(1, 1001), row(4, 1000), row(5, 1000)]
-    texts.append(post.replace(b",\nDone -> Done { sync spike?; };", b";"))
-    texts.append(post.replace(wait, wait + b"Wait -> Wait { sync pass?; },\n"))
-    lines = [reading_line(t) for t in texts]
-    # what document 01 says of these posts
-    for text, known in ((b"", " refused 2 1 0 0 |"), (row(1, 1001), f" refused 6 1 {row(1, 1001).index(b'1001')} 0 |"),
-                        (row(4, 1000), " states 4008 |"), (row(5, 1000), " refused 9 1 5010 0 |"), (post, " states 10 |"),
-                        (texts[-2], " refused 10 1 5 2 |"), (texts[-1], " refused 11 1 0 1 |")):
-        assert lines[texts.index(text)].startswith(known), (text, lines[texts.index(text)])
-    assert " | safe 9 yes keep 247 192 170" in lines[texts.index(post)] and " | safe 5 no keep 7 192 170" in lines[texts.index(POSTS["Hush"])]
+def known_readings():
+    """What SPECIFICATION 16.7 says of some texts, with the line's beginning."""
+    bad, over = faults(), rows(1, 1001)
+    return [(b"", " refused 2 1 0 0 |"), (rows(1, 1000), " states 1002 |"), (over, f" refused 6 1 {over.index(b'1001')} 0 |"),
+            (rows(4, 1000), " states 4008 |"), (rows(5, 1000), " refused 9 1 5010 0 |"),
+            (bad[10], " refused 10 1 5 2 |"), (bad[11], " refused 11 1 0 1 |")]
+
+
+def boundary_readings():
+    """State counts at the limit, with up to three clocks; clocks that nothing is compared with; constants of edges never taken."""
+    sizes = [(16, 254, 1), (17, 239, 1), (32, 126, 1), (32, 127, 1), (16, 14, 2), (2, 62, 2), (1, 14, 3), (1, 15, 3), (8, 6, 3),
+             (32, 1000, 3), (32, 0, 0), (1, 0, 0)]
+    never = b"broadcast chan a; process P() { clock x; state A { x <= 1 }, B; init A; trans B -> B { guard x == 3; sync a!; }; } system P;"
+    unread = b"process P() { clock x, y, z; state A; init A; } system P;"
+    cut = (b"broadcast chan a; process P() { clock x, y, z; state A { y <= 1 && z <= 2 }, B { x <= 0 }; init A; "
+           b"trans A -> B { sync a?; assign x = 0; }, A -> A { sync a?; }, B -> A { sync a?; assign y = 0, z = 0; }; } system P;")
+    three = [((1, 1, 1), (0,), 0), ((2, 1, 1), (1, 2), 1), ((1, 2, 3), (), 0), ((3, 1, 2), (0, 1, 2), 2)]
+    once = swapped(cut, (b"A -> A { sync a?; }, ", b""))
+    return [*(rows(*s) for s in sizes), never, unread, cut, once, *(clocked(*t) for t in three)]
+
+
+def readings(count=260, seed=3):
+    """Reading and safe states: the examples, known readings, each fault, limits, random texts with up to three clocks."""
+    rng = random.Random(seed)
+    texts = [*POSTS.values(), *(t for t, _ in known_readings()), *faults().values(), *boundary_readings()]
     while len(texts) < count:
-        channels = [(f"c{i}", rng.choice("?!")) for i in range(rng.choice((1, 2, 2, 3)))]
-        text = random_text(rng, channels, ["x", "y"][:rng.choice((0, 1, 1, 2))], rng.choice((1, 2)))
-        if len(b"#".join(texts + [text])) > 65536:
-            break
+        channels = [(f"c{i}", rng.choice("??!!!-")) for i in range(rng.choice((1, 2, 2, 3)))]
+        clocks = ["x", "y", "z"][:rng.choice((0, 1, 1, 2, 3, 3))]
+        text = random_text(rng, channels, clocks, rng.choice((1, 2)))
         texts.append(damaged(rng, text).replace(b"#", b"@") if rng.random() < 0.1 else text)
-        lines.append(reading_line(texts[-1]))
-    folder = HERE.parent / "crates" / "test_clocks"
-    (folder / "stdin").write_bytes(b"#".join(texts))
-    (folder / "stdout").write_text("\n".join(lines) + "\n")
-    print("test_clocks", len(lines), "texts;", Counter(" ".join(l.split()[:2]) if "refused" in l.split("|")[0] else l.split("|")[2].split()[2] for l in lines))
+    assert len(b"#".join(texts)) <= 65536
+    lines = [reading_line(t) for t in texts]
+    (CRATES / "test_clocks" / "stdin").write_bytes(b"#".join(texts))
+    (CRATES / "test_clocks" / "stdout").write_text("\n".join(lines) + "\n")
+    kinds = Counter(l.split("|")[0].split()[0] for l in lines)
+    print("test_clocks", len(lines), "texts;", f"{kinds['states']} accepted, {kinds['refused']} refused")
+
+
+def record_lines(text):
+    """What test_reader prints of a text: the refusal, or the counts, the init location and every item of the record."""
+    try:
+        t = ref.Text(text, judged=False)
+    except ref.Refused as r:
+        return [" refused %d 1 %d %d" % (r.answer[0], *r.answer[2:])]
+
+    def joined(comparisons):
+        return "".join(f" {clock} {sign} {value}" for clock, sign, value in comparisons)
+    out = [f" accepted {len(t.channels)} {len(t.clocks)} {len(t.locations)} {len(t.edges)} {t.init}"]
+    out += [f"  channel {place} {n} {t.marks.get(c, '-')}" for c, (place, n) in enumerate(t.places["channel"])]
+    out += [f"  clock {place} {n}" for place, n in t.places["clock"]]
+    out += [f"  location {place} {n}{joined(i)}" for (place, n), i in zip(t.places["location"], t.invariants)]
+    out += [f"  edge {e[0]} {e[1]} {t.marks[e[3]]} {e[3] + 1}{joined(e[2])}{''.join(f' reset {k}' for k in sorted(e[4]))}" for e in t.edges]
+    return out
+
+
+def records():
+    """The expected output of test_reader: each text ends at `%`, and the byte after it says how many spaces go with it."""
+    data, lines, at, count = (CRATES / "test_reader" / "stdin").read_bytes(), [], 0, 0
+    while at < len(data):
+        end, count = data.index(b"%", at), count + 1
+        text, how = data[at:end], data[end + 1:end + 2]
+        text = {b"0": text, b"1": text.ljust(LONG), b"2": text.ljust(LONG + 1), b"3": text.rjust(LONG)}[how]
+        first, *rest = record_lines(text)
+        lines += [f"{count}{first}", *rest]
+        at = end + 3
+    (CRATES / "test_reader" / "stdout").write_text("\n".join(lines) + "\n")
+    print("test_reader", count, "texts,", len(data), "bytes")
+
+
+def uncapped(seed=5, texts=200, steps=40):
+    """Capping does not matter (SPECIFICATION 6.6): along random runs, clocks that are never capped have the moves of their states."""
+    rng = random.Random(seed)
+    for _ in range(texts):
+        try:
+            t = ref.Text(random_text(rng, [("a", "?"), ("b", "!")], ["x", "y", "z"][:rng.randrange(4)], 2))
+        except ref.Refused:
+            continue
+        config = (t.init, (0,) * len(t.clocks))
+        for _ in range(steps):
+            moves = {c: t.step(config, c) for c in range(3)}
+            assert all(t.next(t.number(*config), c) == (None if m is None else t.number(*m)) for c, m in moves.items())
+            config = rng.choice([m for m in moves.values() if m is not None] or [(t.init, (0,) * len(t.clocks))])
+
+
+def stated():
+    """What SPECIFICATION 16.2 to 16.7 states of the posts is what this reading gives."""
+    P, big, run = POSTS, bytes(512), [0] * 9
+    assert ref.read(POST).count == 10 and ref.safe_states(POST, big)[0] == (9, 1) and ref.safe_states(P["Hush"], big)[0] == (5, 0)
+    assert ref.search(P["Hush"], POST, big, 100, 100, run)[0] == (17, 1, 0, 0)
+    for left, right, steps in (("Post", "Post", []), ("Early", "Post", [0, 0, 3]), ("Idle", "Post", [0] * 4), ("Post", "Idle", [0, 0, 0, 3]),
+                               ("Post", "Hush", [0, 0, 0, 3]), ("Rearm", "Post", [0, 0, 0, 2, 0])):
+        n, _, found = ref.search(P[left], P[right], big, 100, 100, run)
+        assert n == len(steps) and found[:n] == steps, (left, right, n, found)
+    answer, _, table = ref.widest(POST, POST, big, bytes(29))
+    assert answer == (29, 1) and table[9:] == bytes.fromhex("80004000200010000000" + "07C0" * 5)
+    assert ref.widest(POST, POST, big, bytes(28))[0] == (14, 0, 29, 0) and ref.widest(P["Rearm"], POST, big, bytes(29))[0] == (25, 0)
+    diagonal = {(s, s) for s in ref.read(POST).safe()}
+    for pairs, answer in ((diagonal, (9,)), ({(0, 0)}, (20, 0, 0, 0))):
+        assert ref.check(POST, POST, big, ref.header(10, 10) + ref.raster(pairs, 10, 10))[0] == answer
+    assert ref.program(P["Rearm"], POST) == b"NO 5\ntick\ntick\ntick\nspike?\ntick\n" and ref.program(POST, POST) == b"YES 29\n"
+    for text, line in known_readings():
+        assert reading_line(text).startswith(line), (text, reading_line(text))
+
+
+def operations():
+    cases = Cases()
+    examples(cases)
+    refusals_of_texts(cases)
+    orders(cases)
+    lengths(cases)
+    tables(cases)
+    many_states(cases)
+    random_pairs(cases, 1)
+    missing = every_code() - cases.codes
+    assert not missing and not cases.codes - every_code(), (missing, cases.codes - every_code())
+    cases.write()
 
 
 if __name__ == "__main__":
+    stated()
+    uncapped()
+    records()
     readings()
-    all_cases = Cases()
-    searches(all_cases)
-    tables(all_cases)
-    all_cases.write("test_operations")
+    operations()

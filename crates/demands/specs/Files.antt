@@ -41,7 +41,7 @@ module _ (n w : ℕ) (X : List Bool) (old : List ℕ) where
   unfolding raster.raster
   raster-length = length-tab (λ i. byte-of (raster.in-row w X (i / bytes-for w)) (i % bytes-for w)) 0 (n * bytes-for w)
 
-  file-length : length (table-file n w X) ≡ table-bytes w n
+  pub file-length : length (table-file n w X) ≡ table-bytes w n
   unfolding table-file header-bytes table-bytes
   file-length = length-append (header w n) (raster.raster n w X) ∙ ap (λ (k : ℕ). length (header w n) + k) raster-length
 

@@ -10,3 +10,4 @@ pub mod Searched
 pub mod Widened
 pub mod Answered
 pub mod Checked
+pub mod Long

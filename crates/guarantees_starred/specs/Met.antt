@@ -2,20 +2,17 @@
 -- itself, with slices that are long enough.
 use mathlib.Core.Path.{_≡_, sym, ap, subst, _∙_}
 use mathlib.Core.Bool.{Bool, true}
-use mathlib.Core.Option.{Option, none}
 use mathlib.Core.List.{List}
 use Prim.Native.Nat.{ℕ, _≤_}
 use lib.Dec.{T}
 use lib.ListN.{length}
-use Rattle.refusals.specs.declared.Refusal.{Refusal}
-use Rattle.refusals.specs.Refusals.{keep-too-short, table-too-short, queue-too-short, run-too-short}
 use Rattle.reader_examples.specs.Texts.{post}
-use Rattle.systems.specs.Bools.{none-some}
 use Rattle.systems.specs.Tests.{at}
 use Rattle.systems.specs.Finite.{safe}
 use Rattle.systems.specs.Theorems.{implementation-iff}
 use Rattle.two_operations.specs.Outcome.{search-outcome, check-outcome, widest-outcome}
 use Rattle.tables_header.specs.Header.{fits}
+use Rattle.demands.specs.Long.{no-refusal}
 use Rattle.demands.specs.Words.{Consistent, Long-enough, search-refusal, check-refusal, widest-refusal, Right-form}
 use Rattle.guarantees.specs.Texts.{Accepted-text, states, meaning, Equal-channels}
 use Rattle.guarantees.specs.Setting.{left-capping, Left}
@@ -48,14 +45,6 @@ post-consistent =
     implementation-iff (left-capping post post a b e) .1 (subst T (sym s) tt)
 
 -- slices that are long enough
-no-refusal : (o : Option Refusal) → o ≡ none → Long-enough o
-no-refusal o e = record {
-  keep = λ n q. none-some (keep-too-short n) (sym e ∙ q);
-  table = λ n q. none-some (table-too-short n) (sym e ∙ q);
-  queue = λ n q. none-some (queue-too-short n) (sym e ∙ q);
-  run = λ n q. none-some (run-too-short n) (sym e ∙ q);
-}
-
 pub post-search-long : (keep : List ℕ) (back line : ℕ) (run : List ℕ) → Room 10 10 0 keep back line run
     → Long-enough (search-refusal (search-outcome post post keep back line run .answer))
 unfolding search-refusal

@@ -1,1 +1,4 @@
 pub mod Returned
+pub mod Sizes
+pub mod EnoughLaws
+pub mod Enough

@@ -1,5 +1,6 @@
--- What a call of the library returns as four numbers: document 01's code, file mark, p and q for each case of each
--- answer. Code 0 is success, with file mark 0.
+-- What a call of the library returns as four numbers (SPECIFICATION 15.1): code, file mark, p and q for each case of
+-- each answer. Code 0 is success, with file mark 0.
+use mathlib.Core.Path.{_≡_}
 use mathlib.Core.Bool.{Bool, cond}
 use mathlib.Core.List.{List}
 use Prim.Native.Nat.{ℕ}
@@ -64,3 +65,7 @@ of-check (check.Refused f) = refused f
 unfoldable pub of-widest : WidestAnswer → Returned
 of-widest (made.Made count start) = success count (as-number start)
 of-widest (made.Refused f) = refused f
+
+-- the code that a call returns is not that of this refusal, whatever number it carries
+abbrev pub Returns-no : (ℕ → Refusal) → Returned → Type 0
+Returns-no kind r = (n : ℕ) → r .code ≡ kind n .code → ⊥

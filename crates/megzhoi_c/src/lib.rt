@@ -1,5 +1,7 @@
-// Document 01's five operations for callers in C and Rust. A slice is a pointer and a length in entries. The answer is
-// four numbers: the code, 0 for success, is returned, and the file mark, p and q are written.
+// The five operations for callers in C and Rust (SPECIFICATION 15). A slice is a pointer and a length in entries. The
+// answer is four numbers: the code, 0 for success, is returned, and the file mark, p and q are written. Three more
+// functions say how long the slices are that a caller lends.
+use limits::STATE_LIMIT;
 use reader_record::Text;
 use refusals::NO_FILE;
 use refusals::Refusal;
@@ -16,6 +18,8 @@ ghost use Rattle.search.specs.Outcome.{Scratch};
 ghost use Rattle.two_operations.specs.Outcome.{search-outcome, check-outcome, widest-outcome};
 ghost use Rattle.megzhoi_c.specs.Returned.{four, success, refused, as-number, recorded};
 ghost use Rattle.megzhoi_c.specs.Returned.{of-read, of-safe, of-search, of-check, of-widest};
+ghost use mathlib.Core.Bool.{_&&_};
+ghost use Rattle.megzhoi_c.specs.Sizes.{possible, keep-needed, table-needed, queue-needed};
 
 // 1 for true and 0 for false.
 fn number_of_bool(b: bool) -> usize
@@ -247,4 +251,60 @@ pub extern "C" fn megzhoi_widest(
     let answer = operations::widest(left, right, keep, table);
     let f = widest_returned(answer);
     hand_out(f, file, p, q)
+}
+
+// What a size is for a count of states that no text has.
+const NO_SIZE: usize = 0;
+
+// Whether an accepted text can have so many states.
+fn possible(states: usize) -> bool
+    ensures { λ r. ⌜ r ≡ possible states ⌝ }
+{
+    if states == 0 {
+        return false;
+    }
+    states <= STATE_LIMIT
+}
+
+// Whether two accepted texts can have so many states.
+fn both_possible(left: usize, right: usize) -> bool
+    ensures { λ r. ⌜ r ≡ (possible left && possible right) ⌝ }
+{
+    if !possible(left) {
+        return false;
+    }
+    possible(right)
+}
+
+// The bytes of keep for a text of so many states.
+#[no_mangle]
+pub extern "C" fn megzhoi_keep_bytes(states: usize) -> usize
+    ensures { λ r. ⌜ r ≡ keep-needed states ⌝ }
+{
+    if !possible(states) {
+        return NO_SIZE;
+    }
+    bitmaps::bytes_for(states)
+}
+
+// The bytes of a table for two texts of so many states.
+#[no_mangle]
+pub extern "C" fn megzhoi_table_bytes(left: usize, right: usize) -> usize
+    ensures { λ r. ⌜ r ≡ table-needed left right ⌝ }
+{
+    if !both_possible(left, right) {
+        return NO_SIZE;
+    }
+    tables_header::table_length(right, left)
+}
+
+// The entries of back, and those of line, for two texts of so many states.
+#[no_mangle]
+pub extern "C" fn megzhoi_queue_entries(left: usize, right: usize) -> usize
+    ensures { λ r. ⌜ r ≡ queue-needed left right ⌝ }
+{
+    if !both_possible(left, right) {
+        return NO_SIZE;
+    }
+    left * right
 }

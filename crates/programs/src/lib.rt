@@ -1,6 +1,5 @@
-// What the programs share: reading a file into a buffer, and printing numbers and refusals.
+// What the programs share: reading a file into a buffer and writing bytes out (SPECIFICATION 14.1, 14.3).
 use libc::STDOUT_FILENO;
-use refusals::Refusal;
 ghost use Rattle.io.specs.Counts.{Counts};
 
 // What can be read of a file, at most as much as the buffer holds. An unreadable file counts as empty.
@@ -18,25 +17,4 @@ pub fn read_file(path: &[u8], buf: &mut [u8]) -> usize
 
 pub fn put(s: &[u8]) {
     io::write_all(STDOUT_FILENO, s);
-}
-
-// A space and a number.
-pub fn put_number(n: usize) {
-    put(b" ");
-    io::print_decimal(STDOUT_FILENO, n as u64);
-}
-
-// Code, file, p and q, each after a space.
-pub fn put_numbers(f: Refusal) {
-    put_number(f.code);
-    put_number(f.file);
-    put_number(f.p);
-    put_number(f.q);
-}
-
-// Document 01's line for a refusal.
-pub fn put_refusal(f: Refusal) {
-    put(b"REFUSED");
-    put_numbers(f);
-    put(b"\n");
 }

@@ -1,5 +1,4 @@
-// Prints what reading returns, for programs that show it: a line for the answer, then a line for each of the first items
-// of each list.
+// Prints what reading returns, for programs that show it: a line for the answer, then a line for each item of each list.
 use limits::CHANNEL_LIMIT;
 use limits::CLOCK_LIMIT;
 use limits::COMPARISON_LIMIT;
@@ -15,9 +14,6 @@ use reader_record::Sign;
 use reader_record::Text;
 use refusals::Refusal;
 use refusals::Verdict;
-
-// So many items of each list are shown.
-const SHOWN: usize = 4;
 
 // The lists of a text.
 enum List {
@@ -188,10 +184,10 @@ fn item(t: Text, k: List, i: usize) {
     }
 }
 
-// A line for each of the first items of a list.
-fn first_items(t: Text, k: List) {
+// A line for each item of a list; no list is longer than that of the edges may be.
+fn items(t: Text, k: List) {
     let mut i = 0;
-    while i < SHOWN {
+    while i < EDGE_LIMIT {
         item(t, k, i);
         i += 1;
     }
@@ -205,10 +201,10 @@ fn accepted(t: Text) {
     put(t.edge_count);
     put(t.init);
     io::write_all(1, b"\n");
-    first_items(t, List::Channels);
-    first_items(t, List::Clocks);
-    first_items(t, List::Locations);
-    first_items(t, List::Edges);
+    items(t, List::Channels);
+    items(t, List::Clocks);
+    items(t, List::Locations);
+    items(t, List::Edges);
 }
 
 fn refused(f: Refusal) {
@@ -221,7 +217,7 @@ fn refused(f: Refusal) {
 }
 
 // ` refused` code file p q, or ` accepted`, the counts of channels, clocks, locations and edges and the init
-// location, and the first items of each list.
+// location, and every item of each list.
 pub fn print(p: Parsed) {
     let a = p.answer;
     match a {

@@ -1,6 +1,6 @@
-// Checks table.pbm against left.xta and right.xta: prints ACCEPTED and the number of pairs, or the refusal.
-use limits::KEEP_LIMIT;
-use tables::CheckAnswer;
+// Checks table.pbm against left.xta and right.xta: prints ACCEPTED and the number of pairs, or the refusal
+// (SPECIFICATION 14.5). Crate `printed` makes what is printed; this program reads the files and writes it out.
+use printed_lines::LINE_LIMIT;
 use tables_header::TABLE_LIMIT;
 ghost use mathlib.Core.Path.{_≡_};
 ghost use Prim.Native.Nat.{_+_};
@@ -17,19 +17,6 @@ fn room() -> [u8; ROOM]
     [0u8; ROOM]
 }
 
-fn verdict(left: &[u8], right: &[u8], table: &[u8]) {
-    let mut keep = [0u8; KEEP_LIMIT];
-    let answer = operations::check(left, right, &mut keep, table);
-    match answer {
-        CheckAnswer::Refused(f) => programs::put_refusal(f),
-        CheckAnswer::Accepted(count) => {
-            programs::put(b"ACCEPTED");
-            programs::put_number(count);
-            programs::put(b"\n");
-        }
-    }
-}
-
 fn main() {
     let mut left = io::large_buffer();
     let n = programs::read_file(b"left.xta", &mut left);
@@ -37,5 +24,7 @@ fn main() {
     let m = programs::read_file(b"right.xta", &mut right);
     let mut table = room();
     let k = programs::read_file(b"table.pbm", &mut table);
-    verdict(&left[..n], &right[..m], &table[..k]);
+    let mut out = [0u8; LINE_LIMIT];
+    let size = printed::recheck(&left[..n], &right[..m], &table[..k], &mut out);
+    programs::put(&out[..size]);
 }

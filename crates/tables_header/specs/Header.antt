@@ -54,9 +54,12 @@ raster-bytes w h = h * bytes-for w
 unfoldable pub table-bytes : ℕ → ℕ → ℕ
 table-bytes w h = header-bytes w h + raster-bytes w h
 
--- the bytes of the largest table
+-- the bytes of the largest table: both numbers have four digits, and behind each stands one byte
+abbrev pub state-digits : ℕ
+state-digits = 4
+
 abbrev pub table-limit : ℕ
-table-limit = magic-bytes + 2 * (4 + 1) + state-limit * keep-limit
+table-limit = magic-bytes + 2 * (state-digits + 1) + state-limit * keep-limit
 
 -- the bytes t begin with the bytes p
 unfoldable pub begins : List ℕ → List ℕ → Bool

@@ -1,5 +1,5 @@
 // Reads texts from standard input, a `#` between two, and writes what reading and the safe-state operation give for
-// each. What is expected comes from tests/make_cases.py, by a plain enumeration written from document 01.
+// each. What is expected comes from tests/make_cases.py, by an independent reading of docs/SPECIFICATION.md.
 use refusals::Refusal;
 use refusals::Verdict;
 use safe_states::SafeAnswer;

@@ -1,7 +1,14 @@
-// Runs the cases of data/cases through the operations over two texts and prints each answer with everything lent,
-// whole. tests/make_cases.py writes the cases and, from an independent reading of document 01, the expected output.
+// Runs the calls of data/cases through the five operations and prints each answer with everything that is lent.
+// tests/make_cases.py writes the calls and, from an independent reading of docs/SPECIFICATION.md, the expected output.
+//
+// A record of the file is a letter, six numbers and bytes. `T` gives the two texts of the calls that follow: the length of
+// the left and its length with spaces after it, the same for the right, and their bytes. The calls are `R` reading and `S`
+// safe states (of the left), `D` search, `C` check and `W` widest table, with the lengths of keep, of the table to write, of
+// back, line and run, and of the given table, whose bytes follow.
 use libc::STDOUT_FILENO;
 use refusals::Refusal;
+use refusals::Verdict;
+use safe_states::SafeAnswer;
 use search::SearchAnswer;
 use tables::CheckAnswer;
 use tables::WidestAnswer;
@@ -9,72 +16,84 @@ ghost use mathlib.Core.Path.{_≡_};
 ghost use Prim.Native.Nat.{_+_, _≤_, _<_};
 ghost use lib.ListN.{length};
 
-// The letters of the search, of the search with an over-long right text, and of the widest table: `D`, `L` and `W`; the
-// check has `C`.
-const SEARCH: usize = 68;
+const TEXTS: u8 = b'T';
 
-const LONG: usize = 76;
+const READ: u8 = b'R';
 
-const WIDEST: usize = 87;
+const SAFE: u8 = b'S';
 
-// A case: the operation's letter and the lengths of its slices, and where its bytes begin.
-struct Case {
-    letter: usize,
-    at: usize,
-    left: usize,
-    right: usize,
-    table: usize,
+const SEARCH: u8 = b'D';
+
+const CHECK: u8 = b'C';
+
+// The bytes of a number, lowest first, and those before a record's own bytes: a letter and six numbers.
+const NUMBER_BYTES: usize = 3;
+
+const HEAD_BYTES: usize = 19;
+
+const BYTE_VALUES: usize = 256;
+
+// The code after which back and line may be changed (SPECIFICATION 13.5).
+const RUN_TOO_SHORT: usize = 21;
+
+// What lent bytes and entries begin as: an operation that leaves them alone does not change them.
+const LENT_BYTE: u8 = 165;
+
+const LENT_ENTRY: u32 = 77;
+
+// The room of the slices that are lent. A call that does not fit is left out, and the expected output then differs.
+const KEEP_ROOM: usize = 520;
+
+const TABLE_ROOM: usize = 16384;
+
+const ENTRY_ROOM: usize = 131072;
+
+const RUN_ROOM: usize = 512;
+
+// The room of the file; the contracts below say 524,288 of a place in it.
+const FILE_ROOM: usize = 524288;
+
+// So many items of a slice are shown whole; of more, the length and a sum.
+const WHOLE: usize = 64;
+
+const FACTOR: usize = 257;
+
+const MODULUS: usize = 1000000007;
+
+// The lengths that a call gives.
+struct Lengths {
     keep: usize,
-    room: usize,
+    table: usize,
     back: usize,
     line: usize,
     run: usize,
+    given: usize,
+}
+
+fn put(s: &[u8]) {
+    io::write_all(STDOUT_FILENO, s);
+}
+
+fn put_decimal(n: usize) {
+    io::print_decimal(STDOUT_FILENO, n as u64);
+}
+
+fn put_number(n: usize) {
+    put(b" ");
+    put_decimal(n);
 }
 
 fn put_refused(f: Refusal) {
-    programs::put(b"refused");
-    programs::put_numbers(f);
+    put(b" refused");
+    put_number(f.code);
+    put_number(f.file);
+    put_number(f.p);
+    put_number(f.q);
 }
 
-// The bytes of a slice in hexadecimal, `-` if there are none.
-fn put_bytes(s: &[u8]) {
-    if s.len() == 0 {
-        programs::put(b"-");
-        return;
-    }
-    let mut i: usize = 0;
-    while i < s.len() {
-        io::print_hex(STDOUT_FILENO, wide(s[i]) as u64, 2);
-        i += 1;
-    }
-}
-
-fn put_entry(i: usize, entry: u32) {
-    if 0 < i {
-        programs::put(b",");
-    }
-    io::print_decimal(STDOUT_FILENO, entry as u64);
-}
-
-// The entries of a slice, at most 64, in decimal, joined by commas, `-` if there are none.
-fn put_entries(s: &[u32]) {
-    if s.len() == 0 {
-        programs::put(b"-");
-        return;
-    }
-    let mut i: usize = 0;
-    while i < 64 {
-        if s.len() <= i {
-            return;
-        }
-        put_entry(i, s[i]);
-        i += 1;
-    }
-}
-
-fn put_keep(keep: &[u8]) {
-    programs::put(b" keep ");
-    put_bytes(keep);
+fn put_done(n: usize) {
+    put(b" done");
+    put_number(n);
 }
 
 fn wide(b: u8) -> usize
@@ -83,51 +102,105 @@ fn wide(b: u8) -> usize
     b as usize
 }
 
-// The byte at a place, 0 past the end.
-fn byte_at(s: &[u8], at: usize) -> usize
-    ensures { λ r. ⌜ r < 256 ⌝ }
+fn wide_entry(e: u32) -> usize
+    ensures { λ r. ⌜ r < 4294967296 ⌝ }
 {
-    if at < s.len() {
-        return wide(s[at]);
-    }
-    0
+    e as usize
 }
 
-// A number of two bytes, low first.
-fn number_at(s: &[u8], at: usize) -> usize
-    requires { ⌜ at < 70000 ⌝ }
-    ensures { λ r. ⌜ r < 65536 ⌝ }
+// A sum of the items so far, with one more; the place of an item counts.
+fn added(sum: usize, item: usize) -> usize
+    requires { ⌜ (sum < 1000000007) × (item < 4294967296) ⌝ }
+    ensures { λ r. ⌜ r < 1000000007 ⌝ }
 {
-    byte_at(s, at) + 256 * byte_at(s, at + 1)
+    (sum * FACTOR + item + 1) % MODULUS
 }
 
-fn case_at(s: &[u8], at: usize) -> Case
-    requires { ⌜ at < 66000 ⌝ }
-    ensures { λ c. ⌜ (c .at ≡ at + 17) × ((c .left < 65536) × ((c .right < 65536) × (c .table < 65536))) ⌝ }
-{
-    let letter = byte_at(s, at);
-    Case {
-        letter,
-        at: at + 17,
-        left: number_at(s, at + 1),
-        right: number_at(s, at + 3),
-        table: number_at(s, at + 5),
-        keep: number_at(s, at + 7),
-        room: number_at(s, at + 9),
-        back: number_at(s, at + 11),
-        line: number_at(s, at + 13),
-        run: number_at(s, at + 15),
+fn put_sum(n: usize, sum: usize) {
+    put_decimal(n);
+    put(b":");
+    put_decimal(sum);
+}
+
+fn put_hex(s: &[u8]) {
+    let mut i: usize = 0;
+    while i < s.len() {
+        io::print_hex(STDOUT_FILENO, wide(s[i]) as u64, 2);
+        i += 1;
     }
 }
 
-// Whether the entries of a slice, at most 2,048, are all as they were lent.
+fn sum_of_bytes(s: &[u8]) -> usize {
+    let mut sum: usize = 0;
+    let mut i: usize = 0;
+    while i < s.len() {
+        sum = added(sum, wide(s[i]));
+        i += 1;
+    }
+    sum
+}
+
+// The bytes of a slice in hexadecimal, `-` if there are none.
+fn put_bytes(s: &[u8]) {
+    if s.len() == 0 {
+        put(b"-");
+        return;
+    }
+    if s.len() <= WHOLE {
+        put_hex(s);
+        return;
+    }
+    put_sum(s.len(), sum_of_bytes(s));
+}
+
+fn put_entry(i: usize, entry: u32) {
+    if 0 < i {
+        put(b",");
+    }
+    io::print_decimal(STDOUT_FILENO, entry as u64);
+}
+
+fn put_list(s: &[u32]) {
+    let mut i: usize = 0;
+    while i < s.len() {
+        put_entry(i, s[i]);
+        i += 1;
+    }
+}
+
+fn sum_of_entries(s: &[u32]) -> usize {
+    let mut sum: usize = 0;
+    let mut i: usize = 0;
+    while i < s.len() {
+        sum = added(sum, wide_entry(s[i]));
+        i += 1;
+    }
+    sum
+}
+
+// The entries of a slice in decimal, joined by commas, `-` if there are none.
+fn put_entries(s: &[u32]) {
+    if s.len() == 0 {
+        put(b"-");
+        return;
+    }
+    if s.len() <= WHOLE {
+        put_list(s);
+        return;
+    }
+    put_sum(s.len(), sum_of_entries(s));
+}
+
+fn put_keep(keep: &[u8]) {
+    put(b" keep ");
+    put_bytes(keep);
+}
+
+// Whether the entries of a slice are all as they were lent.
 fn is_kept(s: &[u32]) -> bool {
     let mut i: usize = 0;
-    while i < 2048 {
-        if s.len() <= i {
-            return true;
-        }
-        if s[i] != 77 {
+    while i < s.len() {
+        if s[i] != LENT_ENTRY {
             return false;
         }
         i += 1;
@@ -138,28 +211,58 @@ fn is_kept(s: &[u32]) -> bool {
 // What became of back or line after a refusal that must leave it alone.
 fn put_scratch(s: &[u32]) {
     if is_kept(s) {
-        programs::put(b" kept");
+        put(b" kept");
         return;
     }
-    programs::put(b" changed");
+    put(b" changed");
 }
 
-// Prints the answer, and says whether back and line must be as they came: after every refusal but 21.
+fn put_flag(b: bool) {
+    if b {
+        put_number(1);
+        return;
+    }
+    put_number(0);
+}
+
+fn read_call(text: &[u8]) {
+    put(b"R");
+    let r = operations::read(text);
+    let a = r.answer;
+    match a {
+        Verdict::Refused(f) => put_refused(f),
+        Verdict::Accepted => put_done(r.states),
+    }
+}
+
+fn safe_call(text: &[u8], keep: &mut [u8]) {
+    put(b"S");
+    let a = operations::safe_states(text, keep);
+    match a {
+        SafeAnswer::Refused(f) => put_refused(f),
+        SafeAnswer::Found(count, start) => {
+            put_done(count);
+            put_flag(start);
+        }
+    }
+    put_keep(keep);
+}
+
+// Prints the answer, and says whether back and line must be as they came: after every refusal but that of a short run.
 fn put_searched(answer: SearchAnswer) -> bool {
     match answer {
         SearchAnswer::Refused(f) => {
             put_refused(f);
-            f.code != 21
+            f.code != RUN_TOO_SHORT
         }
         SearchAnswer::Found(n) => {
-            programs::put(b"done");
-            programs::put_number(n);
+            put_done(n);
             false
         }
     }
 }
 
-fn search_case(
+fn search_call(
     left: &[u8],
     right: &[u8],
     keep: &mut [u8],
@@ -167,10 +270,11 @@ fn search_case(
     line: &mut [u32],
     run: &mut [u32],
 ) {
+    put(b"D");
     let answer = operations::search(left, right, keep, back, line, run);
     let kept = put_searched(answer);
     put_keep(keep);
-    programs::put(b" run ");
+    put(b" run ");
     put_entries(run);
     if kept {
         put_scratch(back);
@@ -178,161 +282,282 @@ fn search_case(
     }
 }
 
-fn check_case(left: &[u8], right: &[u8], keep: &mut [u8], table: &[u8]) {
+fn check_call(left: &[u8], right: &[u8], keep: &mut [u8], table: &[u8]) {
+    put(b"C");
     let answer = operations::check(left, right, keep, table);
     match answer {
         CheckAnswer::Refused(f) => put_refused(f),
-        CheckAnswer::Accepted(count) => {
-            programs::put(b"done");
-            programs::put_number(count);
-        }
+        CheckAnswer::Accepted(count) => put_done(count),
     }
     put_keep(keep);
 }
 
-fn put_flag(b: bool) {
-    if b {
-        programs::put_number(1);
-        return;
-    }
-    programs::put_number(0);
-}
-
-fn widest_case(left: &[u8], right: &[u8], keep: &mut [u8], table: &mut [u8]) {
+fn widest_call(left: &[u8], right: &[u8], keep: &mut [u8], table: &mut [u8]) {
+    put(b"W");
     let answer = operations::widest(left, right, keep, table);
     match answer {
         WidestAnswer::Refused(f) => put_refused(f),
         WidestAnswer::Made(count, start) => {
-            programs::put(b"done");
-            programs::put_number(count);
+            put_done(count);
             put_flag(start);
         }
     }
     put_keep(keep);
-    programs::put(b" table ");
+    put(b" table ");
     put_bytes(table);
 }
 
-// The slices of a case are the first entries of those lent here; a case that does not fit is left out, and the expected
-// output then differs.
+// Entries to lend. They stand behind a function because antt must not unfold an array of this length.
+fn entries() -> [u32; ENTRY_ROOM]
+    ensures { λ r. ⌜ length r ≡ 131072 ⌝ }
+{
+    [LENT_ENTRY; ENTRY_ROOM]
+}
+
+// The slices of a call are the first entries of those lent here.
 fn search_parts(
     left: &[u8],
     right: &[u8],
-    c: Case,
+    l: Lengths,
     keep: &mut [u8],
     back: &mut [u32],
     line: &mut [u32],
     run: &mut [u32],
 ) {
     let a: usize = 0;
-    let k = c.keep;
-    let b = c.back;
-    let l = c.line;
-    let r = c.run;
-    if keep.len() < k {
-        return;
-    }
+    let b = l.back;
+    let n = l.line;
+    let r = l.run;
     if back.len() < b {
         return;
     }
-    if line.len() < l {
+    if line.len() < n {
         return;
     }
     if run.len() < r {
         return;
     }
-    search_case(
+    search_call(
         left,
         right,
-        &mut keep[a..k],
+        keep,
         &mut back[a..b],
-        &mut line[a..l],
+        &mut line[a..n],
         &mut run[a..r],
     );
 }
 
-fn search_entries(left: &[u8], right: &[u8], c: Case, keep: &mut [u8]) {
-    let mut back = [77u32; 2048];
-    let mut line = [77u32; 2048];
-    let mut run = [77u32; 64];
-    search_parts(left, right, c, keep, &mut back, &mut line, &mut run);
+fn search_entries(left: &[u8], right: &[u8], l: Lengths, keep: &mut [u8]) {
+    let mut back = entries();
+    let mut line = entries();
+    let mut run = [LENT_ENTRY; RUN_ROOM];
+    search_parts(left, right, l, keep, &mut back, &mut line, &mut run);
 }
 
-fn widest_parts(left: &[u8], right: &[u8], c: Case, keep: &mut [u8], table: &mut [u8]) {
+fn widest_part(left: &[u8], right: &[u8], n: usize, keep: &mut [u8], table: &mut [u8]) {
     let a: usize = 0;
-    let k = c.keep;
-    let n = c.room;
-    if keep.len() < k {
-        return;
-    }
     if table.len() < n {
         return;
     }
-    widest_case(left, right, &mut keep[a..k], &mut table[a..n]);
+    widest_call(left, right, keep, &mut table[a..n]);
 }
 
-fn check_parts(left: &[u8], right: &[u8], c: Case, keep: &mut [u8], table: &[u8]) {
+fn widest_bytes(left: &[u8], right: &[u8], n: usize, keep: &mut [u8]) {
+    let mut table = [LENT_BYTE; TABLE_ROOM];
+    widest_part(left, right, n, keep, &mut table);
+}
+
+fn two_texts_call(
+    letter: u8,
+    left: &[u8],
+    right: &[u8],
+    given: &[u8],
+    l: Lengths,
+    keep: &mut [u8],
+) {
+    if letter == SEARCH {
+        search_entries(left, right, l, keep);
+        return;
+    }
+    if letter == CHECK {
+        check_call(left, right, keep, given);
+        return;
+    }
+    widest_bytes(left, right, l.table, keep);
+}
+
+fn call(letter: u8, left: &[u8], right: &[u8], given: &[u8], l: Lengths, keep: &mut [u8]) {
+    if letter == READ {
+        read_call(left);
+        return;
+    }
+    if letter == SAFE {
+        safe_call(left, keep);
+        return;
+    }
+    two_texts_call(letter, left, right, given, l, keep);
+}
+
+fn call_part(letter: u8, left: &[u8], right: &[u8], given: &[u8], l: Lengths, keep: &mut [u8]) {
     let a: usize = 0;
-    let k = c.keep;
+    let k = l.keep;
     if keep.len() < k {
         return;
     }
-    check_case(left, right, &mut keep[a..k], table);
+    call(letter, left, right, given, l, &mut keep[a..k]);
+    put(b"\n");
 }
 
-// Lends bytes of 165 and entries of 77, which an operation that leaves them alone does not change.
-fn operation(left: &[u8], right: &[u8], table: &[u8], c: Case) {
-    let mut keep = [165u8; 64];
-    if c.letter == SEARCH {
-        programs::put(b"D ");
-        search_entries(left, right, c, &mut keep);
-        return;
+// The byte at a place, 0 past the end.
+fn byte_at(s: &[u8], at: usize) -> u8 {
+    if at < s.len() {
+        return s[at];
     }
-    if c.letter == LONG {
-        let long = io::large_buffer();
-        programs::put(b"L ");
-        search_entries(left, &long, c, &mut keep);
-        return;
-    }
-    if c.letter == WIDEST {
-        let mut made = [165u8; 4096];
-        programs::put(b"W ");
-        widest_parts(left, right, c, &mut keep, &mut made);
-        return;
-    }
-    programs::put(b"C ");
-    check_parts(left, right, c, &mut keep, table);
+    0
 }
 
-// Runs the case at a place, and answers where the next one begins.
-fn run_case(s: &[u8], at: usize) -> usize
-    requires { ⌜ at < 66000 ⌝ }
-    ensures { λ r. ⌜ (at < r) × (r < 400000) ⌝ }
+// A number of three bytes, lowest first.
+fn number_at(s: &[u8], at: usize) -> usize
+    requires { ⌜ at < 524288 + 19 ⌝ }
+    ensures { λ r. ⌜ r < 16777216 ⌝ }
 {
-    let c = case_at(s, at);
-    let a = c.at;
-    let b = a + c.left;
-    let d = b + c.right;
-    let e = d + c.table;
+    let low = wide(byte_at(s, at));
+    let middle = wide(byte_at(s, at + 1));
+    let high = wide(byte_at(s, at + 2));
+    low + BYTE_VALUES * (middle + BYTE_VALUES * high)
+}
+
+// The number i, from 0, of the record at a place.
+fn number_of(s: &[u8], at: usize, i: usize) -> usize
+    requires { ⌜ (at < 524288) × (i < 6) ⌝ }
+    ensures { λ r. ⌜ r < 16777216 ⌝ }
+{
+    number_at(s, at + 1 + NUMBER_BYTES * i)
+}
+
+fn lengths_at(s: &[u8], at: usize) -> Lengths
+    requires { ⌜ at < 524288 ⌝ }
+    ensures { λ l. ⌜ l .given < 16777216 ⌝ }
+{
+    Lengths {
+        keep: number_of(s, at, 0),
+        table: number_of(s, at, 1),
+        back: number_of(s, at, 2),
+        line: number_of(s, at, 3),
+        run: number_of(s, at, 4),
+        given: number_of(s, at, 5),
+    }
+}
+
+// The call at a place of the file; answers where the next record begins.
+fn run_call(s: &[u8], at: usize, left: &[u8], right: &[u8]) -> usize
+    requires { ⌜ at < 524288 ⌝ }
+    ensures { λ r. ⌜ at < r ⌝ }
+{
+    let letter = byte_at(s, at);
+    let l = lengths_at(s, at);
+    let a = at + HEAD_BYTES;
+    let e = a + l.given;
     if s.len() < e {
         return e;
     }
-    operation(&s[a..b], &s[b..d], &s[d..e], c);
-    programs::put(b"\n");
+    let mut keep = [LENT_BYTE; KEEP_ROOM];
+    call_part(letter, left, right, &s[a..e], l, &mut keep);
     e
 }
 
-fn run_all(s: &[u8])
-    requires { ⌜ length (now s) ≤ 65536 ⌝ }
-{
-    let mut at: usize = 0;
-    while at < s.len() {
-        at = run_case(s, at);
+// The byte of a text at a place, a space past its end.
+fn text_byte(t: &[u8], i: usize) -> u8 {
+    if i < t.len() {
+        return t[i];
+    }
+    b' '
+}
+
+// The text t, and spaces.
+fn lay(t: &[u8], room: &mut [u8]) {
+    let mut i = 0;
+    while i < room.len() {
+        room[i] = text_byte(t, i);
+        i += 1;
     }
 }
 
+// Lays the two texts of the record at a place; answers where the next record begins.
+fn lay_texts(s: &[u8], at: usize, left: &mut [u8], right: &mut [u8]) -> usize
+    requires { ⌜ at < 524288 ⌝ }
+    ensures { λ r. ⌜ at < r ⌝ }
+{
+    let a = at + HEAD_BYTES;
+    let b = a + number_of(s, at, 0);
+    let e = b + number_of(s, at, 2);
+    if s.len() < e {
+        return e;
+    }
+    lay(&s[a..b], left);
+    lay(&s[b..e], right);
+    e
+}
+
+// The call at a place, over the texts as long as the record at `from` says.
+fn run_over(s: &[u8], at: usize, from: usize, left: &[u8], right: &[u8]) -> usize
+    requires { ⌜ (at < 524288) × (from < 524288) ⌝ }
+    ensures { λ r. ⌜ at < r ⌝ }
+{
+    let a: usize = 0;
+    let n = number_of(s, from, 1);
+    let m = number_of(s, from, 3);
+    if left.len() < n {
+        return at + HEAD_BYTES;
+    }
+    if right.len() < m {
+        return at + HEAD_BYTES;
+    }
+    run_call(s, at, &left[a..n], &right[a..m])
+}
+
+fn run_record(s: &[u8], at: usize, from: usize, left: &mut [u8], right: &mut [u8]) -> usize
+    requires { ⌜ (at < 524288) × (from < 524288) ⌝ }
+    ensures { λ r. ⌜ at < r ⌝ }
+{
+    if byte_at(s, at) == TEXTS {
+        return lay_texts(s, at, left, right);
+    }
+    run_over(s, at, from, left, right)
+}
+
+// Where the record of the texts stands, after the record at `at`.
+fn texts_from(s: &[u8], at: usize, from: usize) -> usize
+    requires { ⌜ (at < 524288) × (from < 524288) ⌝ }
+    ensures { λ r. ⌜ r < 524288 ⌝ }
+{
+    if byte_at(s, at) == TEXTS {
+        return at;
+    }
+    from
+}
+
+fn run_all(s: &[u8], left: &mut [u8], right: &mut [u8])
+    requires { ⌜ length (now s) ≤ 524288 ⌝ }
+{
+    let mut from: usize = 0;
+    let mut at: usize = 0;
+    while at < s.len() {
+        from = texts_from(s, at, from);
+        at = run_record(s, at, from, left, right);
+    }
+}
+
+fn file_room() -> [u8; FILE_ROOM]
+    ensures { λ r. ⌜ length r ≡ 524288 ⌝ }
+{
+    [0u8; FILE_ROOM]
+}
+
 fn main() {
-    let mut buf = io::large_buffer();
+    let mut buf = file_room();
     let n = programs::read_file(b"cases", &mut buf);
-    run_all(&buf[..n]);
+    let mut left = io::large_buffer();
+    let mut right = io::large_buffer();
+    run_all(&buf[..n], &mut left, &mut right);
 }

@@ -1,6 +1,7 @@
 // Reads texts from standard input and prints what reading returns. Each text ends at a byte `%`; the byte after it
-// says whether the text is read as it is (`0`), with spaces up to the largest length (`1`), or up to one more (`2`).
-// A line feed comes between.
+// says whether the text is read as it is (`0`), with spaces after it up to the largest length (`1`) or to one more (`2`),
+// or with spaces before it up to the largest length (`3`). A line feed comes between. The expected output comes from
+// tests/make_cases.py, by an independent reading of docs/SPECIFICATION.md.
 ghost use Prim.Native.Nat.{_+_, _≤_, _<_};
 ghost use lib.ListN.{length};
 use limits::LARGEST_TEXT;
@@ -26,19 +27,23 @@ fn text_end(s: &[u8], at: usize) -> usize
     i
 }
 
-// The byte at i, a space past the end.
-fn byte_at(t: &[u8], i: usize) -> u8 {
-    if i < t.len() {
-        return t[i];
+// The byte at i when t begins at `from`, a space before it and after its end.
+fn byte_at(t: &[u8], from: usize, i: usize) -> u8 {
+    if i < from {
+        return b' ';
+    }
+    let k = i - from;
+    if k < t.len() {
+        return t[k];
     }
     b' '
 }
 
-// The text t, and spaces.
-fn lay(t: &[u8], room: &mut [u8]) {
+// The text t from a place on, and spaces.
+fn lay(t: &[u8], from: usize, room: &mut [u8]) {
     let mut i = 0;
     while i < room.len() {
-        room[i] = byte_at(t, i);
+        room[i] = byte_at(t, from, i);
         i += 1;
     }
 }
@@ -55,20 +60,31 @@ fn show_first(s: &[u8], n: usize) {
     }
 }
 
-// The text t with spaces up to n bytes.
-fn show_long(t: &[u8], n: usize) {
+// The text t from a place on, with spaces up to n bytes.
+fn show_long(t: &[u8], from: usize, n: usize) {
     let mut room = io::large_buffer();
-    lay(t, &mut room);
+    lay(t, from, &mut room);
     show_first(&room, n);
+}
+
+// The text t at the end of the largest length.
+fn show_last(t: &[u8]) {
+    if t.len() <= LARGEST_TEXT {
+        show_long(t, LARGEST_TEXT - t.len(), LARGEST_TEXT);
+    }
 }
 
 fn show_as(t: &[u8], how: u8) {
     if how == b'1' {
-        show_long(t, LARGEST_TEXT);
+        show_long(t, 0, LARGEST_TEXT);
         return;
     }
     if how == b'2' {
-        show_long(t, LARGEST_TEXT + 1);
+        show_long(t, 0, LARGEST_TEXT + 1);
+        return;
+    }
+    if how == b'3' {
+        show_last(t);
         return;
     }
     show(t);

@@ -1,7 +1,7 @@
 //! The verified library's five functions, called on the caller's own thread.
 //!
 //! They go through the wrapper's declarations and return the numbers as they come, undecoded. The functions need more
-//! stack than a thread has by default: call them inside `on_large_stack`.
+//! stack than a thread has by default (`megzhoi::STACK`): call them inside `on_large_stack`.
 
 use megzhoi::raw;
 
@@ -14,10 +14,13 @@ pub struct Returned {
     pub q: usize,
 }
 
-/// Runs a call on a thread with a stack of 64 MB.
+/// The stack of a whole test or benchmark: that of a call, and as much again many times over for all else.
+const LARGE_STACK: usize = 16 * megzhoi::STACK;
+
+/// Runs tests or benchmarks on a thread with a large stack.
 pub fn on_large_stack<T: Send>(work: impl FnOnce() -> T + Send) -> T {
     std::thread::scope(|scope| {
-        let thread = std::thread::Builder::new().stack_size(64 << 20).spawn_scoped(scope, work);
+        let thread = std::thread::Builder::new().stack_size(LARGE_STACK).spawn_scoped(scope, work);
         match thread.expect("a thread with a large stack").join() {
             Ok(answer) => answer,
             Err(panic) => std::panic::resume_unwind(panic),

@@ -2,8 +2,12 @@
 
 use crate::cases;
 use boundary::Returned;
+use plain::codes::RUN_TOO_SHORT;
 use std::fmt::Debug;
 use texts::Random;
+
+/// What a call returns that is no refusal.
+const SUCCESS: usize = 0;
 
 /// Entries after a lent slice; no call may touch them.
 const BEYOND: usize = 16;
@@ -73,7 +77,7 @@ fn plainly<T>(answer: Result<T, plain::Refusal>, values: impl Fn(T) -> (usize, u
         Err(plain::Refusal { code, file, p, q }) => Returned { code, file, p, q },
         Ok(answer) => {
             let (p, q) = values(answer);
-            Returned { code: 0, file: 0, p, q }
+            Returned { code: SUCCESS, file: 0, p, q }
         }
     }
 }
@@ -152,8 +156,8 @@ pub fn search(random: &mut Random) -> Made {
     let mut made = Made::new(returned, plainly(answer, |steps| (steps, 0)), given, lengths);
     made.compare_lent("keep", &library.keep, &plain.keep);
     made.compare_lent("run", &library.run, &plain.run);
-    // What back and line hold is free on success and after 21, elsewhere they are as they came.
-    let free = matches!(made.returned.code, 0 | 21);
+    // What back and line hold is free on success and after 21 (SPECIFICATION 13.5), elsewhere they are as they came.
+    let free = matches!(made.returned.code, SUCCESS | RUN_TOO_SHORT);
     for (what, now, then) in [("back", &library.back, &before.back), ("line", &library.line, &before.line)] {
         match free {
             true => made.compare_beyond(what, now, then),
@@ -177,7 +181,10 @@ fn borrowed(random: &mut Random, left: &[u8], right: &[u8]) -> Borrowed {
     if !cases::too_large(sizes) {
         let (mut back, mut line) = (vec![0; rows * width], vec![0; rows * width]);
         let answer = plain::search(left, right, &mut [0; 512], &mut back, &mut line, &mut []);
-        let steps = answer.map_or_else(|refusal| if refusal.code == 21 { refusal.p } else { 0 }, |steps| steps);
+        let steps = match answer {
+            Err(plain::Refusal { code: RUN_TOO_SHORT, p, .. }) => p,
+            answer => answer.unwrap_or(0),
+        };
         run = cases::length(random, steps);
     }
     Borrowed {

@@ -1,11 +1,12 @@
-//! Document 01 in plain Rust: the five operations over lent slices.
+//! The five operations (SPECIFICATION 12) over lent slices, in plain Rust.
 //!
-//! Nothing here is proved. It was written from the document alone and serves two ends: the
-//! differential test compares the verified library with it, and the benchmark measures the
-//! library against it. Left means the draft, right the contract.
+//! Nothing here is proved. It was written from the rules alone, without the proved code, and serves
+//! two ends: the differential test compares the verified library with it, and the benchmark measures
+//! the library against it. Left means the draft, right the contract.
 
 #![forbid(unsafe_code)]
 
+pub mod codes;
 mod moves;
 mod pairing;
 mod reader;
@@ -96,7 +97,7 @@ pub fn check(left: &[u8], right: &[u8], keep: &mut [u8], table: &[u8]) -> Result
     judge_keep(pair.left.states, keep)?;
     let shape = table::Shape::of(&pair);
     if !shape.fits(table) {
-        return Err(Refusal::new(16, 0, 0, 0));
+        return Err(Refusal::new(codes::OTHER_TABLE, 0, 0, 0));
     }
     write_keep(&pair.safe, keep);
     judge_start(&pair)?;
@@ -109,7 +110,7 @@ pub fn widest(left: &[u8], right: &[u8], keep: &mut [u8], table: &mut [u8]) -> R
     judge_keep(pair.left.states, keep)?;
     let shape = table::Shape::of(&pair);
     if table.len() < shape.bytes() {
-        return Err(Refusal::new(14, 0, shape.bytes(), 0));
+        return Err(Refusal::new(codes::TABLE_TOO_SHORT, 0, shape.bytes(), 0));
     }
     write_keep(&pair.safe, keep);
     judge_start(&pair)?;
@@ -118,7 +119,7 @@ pub fn widest(left: &[u8], right: &[u8], keep: &mut [u8], table: &mut [u8]) -> R
 
 fn judge_length(text: &[u8], file: usize) -> Result<(), Refusal> {
     if text.len() > TEXT_LIMIT {
-        return Err(Refusal::new(1, file, 0, 0));
+        return Err(Refusal::new(codes::TEXT_TOO_LONG, file, 0, 0));
     }
     Ok(())
 }
@@ -147,7 +148,7 @@ fn read_pair(left: &[u8], right: &[u8]) -> Result<Pair, Refusal> {
 fn judge_keep(states: usize, keep: &[u8]) -> Result<(), Refusal> {
     let need = states.div_ceil(8);
     if keep.len() < need {
-        return Err(Refusal::new(13, 0, need, 0));
+        return Err(Refusal::new(codes::KEEP_TOO_SHORT, 0, need, 0));
     }
     Ok(())
 }
@@ -157,5 +158,5 @@ fn judge_start(pair: &Pair) -> Result<(), Refusal> {
     if pair.safe.member[pair.left.start] {
         return Ok(());
     }
-    Err(Refusal::new(17, 1, pair.left.start, 0))
+    Err(Refusal::new(codes::START_NOT_SAFE, 1, pair.left.start, 0))
 }

@@ -1,5 +1,6 @@
 //! Channels pair up by name: code 12.
 
+use crate::codes;
 use crate::record::{Channel, Record};
 use crate::Refusal;
 
@@ -10,12 +11,12 @@ pub fn partners(left: &[u8], of_left: &Record, right: &[u8], of_right: &Record) 
         let found = find(channel.name.spelling(left), right, &of_right.channels);
         match found {
             Some(j) if of_right.channels[j].direction() == channel.direction() => partners.push(j + 1),
-            _ => return Err(Refusal::new(12, 1, i + 1, 0)),
+            _ => return Err(Refusal::new(codes::UNMATCHED_CHANNEL, 1, i + 1, 0)),
         }
     }
     for (j, channel) in of_right.channels.iter().enumerate() {
         if find(channel.name.spelling(right), left, &of_left.channels).is_none() {
-            return Err(Refusal::new(12, 2, j + 1, 0));
+            return Err(Refusal::new(codes::UNMATCHED_CHANNEL, 2, j + 1, 0));
         }
     }
     Ok(partners)

@@ -4,6 +4,7 @@
 //! where several fit one token, the tests stand in the order of the codes. Code 8 is judged
 //! once the mark is read; nothing between the channel's name and the mark can be refused.
 
+use crate::codes;
 use crate::record::*;
 use crate::token::{Kind, Token, Tokens};
 
@@ -57,7 +58,7 @@ impl<'a> Reader<'a> {
 
     /// Code 2 at the token that stands where another was wanted.
     fn misfit<T>(&self) -> Read<T> {
-        fault(2, self.token.start)
+        fault(codes::MISFIT, self.token.start)
     }
 
     fn advance(&mut self) -> Token {
@@ -89,7 +90,7 @@ impl<'a> Reader<'a> {
         let token = self.expect(Kind::Name)?;
         let name = Name { place: token.start, length: token.end - token.start };
         if name.length > NAME_LIMIT {
-            return fault(3, name.place);
+            return fault(codes::NAME_TOO_LONG, name.place);
         }
         Ok(name)
     }
@@ -107,10 +108,10 @@ impl<'a> Reader<'a> {
             || record.clocks.iter().any(|clock| self.same(*clock, name))
             || record.locations.iter().any(|location| self.same(location.name, name));
         if declared {
-            return fault(4, name.place);
+            return fault(codes::DECLARED_BEFORE, name.place);
         }
         if full {
-            return fault(7, name.place);
+            return fault(codes::TOO_MANY_ITEMS, name.place);
         }
         Ok(name)
     }
@@ -196,7 +197,7 @@ impl<'a> Reader<'a> {
         self.expect_all(&[Kind::Close, Kind::System])?;
         let name = self.name()?;
         if !self.same(name, process) {
-            return fault(5, name.place);
+            return fault(codes::UNKNOWN_NAME, name.place);
         }
         self.expect_all(&[Kind::Semicolon, Kind::End])
     }
@@ -205,7 +206,7 @@ impl<'a> Reader<'a> {
         let place = self.token.start;
         let source = self.location()?;
         if self.record.edges.len() == EDGE_LIMIT {
-            return fault(7, place);
+            return fault(codes::TOO_MANY_ITEMS, place);
         }
         self.expect(Kind::Arrow)?;
         let target = self.location()?;
@@ -232,7 +233,7 @@ impl<'a> Reader<'a> {
         let name = self.name()?;
         let found = self.record.channels.iter().position(|channel| self.same(channel.name, name));
         let Some(index) = found else {
-            return fault(5, name.place);
+            return fault(codes::UNKNOWN_NAME, name.place);
         };
         let (label, direction) = match self.token.kind {
             Kind::Question => (Label::Input(index + 1), Direction::Input),
@@ -240,7 +241,7 @@ impl<'a> Reader<'a> {
             _ => return self.misfit(),
         };
         if *self.record.channels[index].used.get_or_insert(direction) != direction {
-            return fault(8, name.place);
+            return fault(codes::OTHER_MARK, name.place);
         }
         self.advance();
         self.expect(Kind::Semicolon)?;
@@ -274,7 +275,7 @@ impl<'a> Reader<'a> {
             let place = self.token.start;
             let clock = self.clock()?;
             if list.as_slice().len() == COMPARISON_LIMIT {
-                return fault(7, place);
+                return fault(codes::TOO_MANY_ITEMS, place);
             }
             let sign = self.sign(in_guard)?;
             let bound = self.bound()?;
@@ -302,7 +303,7 @@ impl<'a> Reader<'a> {
         }
         let bound = self.value();
         if bound > CONSTANT_LIMIT {
-            return fault(6, self.token.start);
+            return fault(codes::CONSTANT_TOO_LARGE, self.token.start);
         }
         self.advance();
         Ok(bound)
@@ -318,12 +319,12 @@ impl<'a> Reader<'a> {
     fn clock(&mut self) -> Read<usize> {
         let name = self.name()?;
         let found = self.record.clocks.iter().position(|clock| self.same(*clock, name));
-        found.map_or(fault(5, name.place), Ok)
+        found.map_or(fault(codes::UNKNOWN_NAME, name.place), Ok)
     }
 
     fn location(&mut self) -> Read<usize> {
         let name = self.name()?;
         let found = self.record.locations.iter().position(|location| self.same(location.name, name));
-        found.map_or(fault(5, name.place), Ok)
+        found.map_or(fault(codes::UNKNOWN_NAME, name.place), Ok)
     }
 }

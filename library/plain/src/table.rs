@@ -1,5 +1,6 @@
 //! Tables of related pairs as raw PBM: the check and the widest table.
 
+use crate::codes;
 use crate::moves::{System, NONE};
 use crate::{Pair, Refusal, Widest};
 
@@ -33,7 +34,7 @@ pub fn check(pair: &Pair, shape: &Shape, table: &[u8]) -> Result<usize, Refusal>
     let (left, right) = (&pair.left, &pair.right);
     let relation = Relation::given(&table[shape.header.len()..], shape, right.states);
     if !relation.holds(left.start, right.start) {
-        return Err(Refusal::new(18, 0, left.start, right.start));
+        return Err(Refusal::new(codes::START_PAIR_NOT_SET, 0, left.start, right.start));
     }
     let matches = Matches::new(right);
     let mut demands = Vec::new();
@@ -41,10 +42,10 @@ pub fn check(pair: &Pair, shape: &Shape, table: &[u8]) -> Result<usize, Refusal>
         relation.demands(left.row(s), &mut demands);
         let all_fine = |t: usize| {
             if !(pair.safe.member[s] && right.valid[t]) {
-                return Err(Refusal::new(19, 0, s, t));
+                return Err(Refusal::new(codes::PAIR_NOT_ALLOWED, 0, s, t));
             }
             match relation.broken(&demands, matches.row(t)) {
-                Some(step) => Err(Refusal::new(20, 0, step, s * right.states + t)),
+                Some(step) => Err(Refusal::new(codes::RULE_BROKEN, 0, step, s * right.states + t)),
                 None => Ok(()),
             }
         };

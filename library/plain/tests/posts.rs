@@ -1,4 +1,4 @@
-//! The posts of document 01, with the document's own numbers.
+//! The posts, with the numbers of SPECIFICATION 16.
 
 use plain::{check, read, safe_states, search, widest, Refusal, Safe, Widest};
 use texts::{early, hush, idle, post, rearm};

@@ -1,4 +1,4 @@
-//! Places of document 01 that could be read two ways, as they were decided.
+//! Places where a rule could be read two ways, as docs/DECISIONS.md has them.
 
 use plain::{read, search, Refusal};
 

@@ -1,5 +1,5 @@
-//! Document 01's marker posts through the wrapper. Every expected value is the document's.
-use megzhoi::{check, read, safe_states, search, widest, Direction, Label, Refusal, Sign, KEEP_BYTES};
+//! The posts through the wrapper; the expected values are those of SPECIFICATION 16.
+use megzhoi::{check, read, safe_states, search, widest, Code, Direction, Label, Refusal, Side, Sign, KEEP_BYTES};
 
 const POST: &str = "broadcast chan pass, spike, late;
 process Post() {
@@ -38,8 +38,10 @@ fn idle() -> String {
     changed(&hush(), " { x <= 3 }", "")
 }
 
+/// A refusal by its four numbers.
 fn refused<T>(code: usize, file: usize, p: usize, q: usize) -> Result<T, Refusal> {
-    Err(Refusal { code, file, p, q })
+    let file = [None, Some(Side::Left), Some(Side::Right)][file];
+    Err(Refusal { code: Code::try_from(code).unwrap(), file, p, q })
 }
 
 /// The steps of a shortest departure, with room enough in every slice.
@@ -159,4 +161,24 @@ fn most_states() {
     let text = |more: &str| format!("process P() {{ clock x; state A {{ x <= 1000 }}, {more}; init A; }} system P;");
     assert_eq!(read(text("B, C, D").as_bytes()).unwrap().states, 4008);
     assert_eq!(read(text("B, C, D, E").as_bytes()), refused(9, 1, 5010, 0));
+}
+
+#[test]
+fn refusals_read() {
+    let shown = |refusal: Result<usize, Refusal>| refusal.unwrap_err().to_string();
+    assert_eq!(
+        shown(count(POST, "")),
+        "code 2, right text: a token does not fit, or the text ends too early (byte place 0)"
+    );
+    assert_eq!(
+        shown(count(&changed(POST, ",\nDone -> Done { sync spike?; }", ""), POST)),
+        "code 10, left or only text: an input has no move (state 5, channel 2)"
+    );
+    assert_eq!(
+        shown(checked(&table(&[(0, 0)]))),
+        "code 20: the pair breaks a rule (step 0, left state × right states + right state 0)"
+    );
+    assert_eq!(shown(checked(&[])), "code 16: the table's header or length is not that of these texts");
+    let error: Box<dyn std::error::Error> = Box::new(read(b"").unwrap_err());
+    assert!(error.source().is_none());
 }

@@ -1,4 +1,4 @@
-//! Contract texts for tests and benchmarks: the posts of document 01, seeded random texts, texts
+//! Contract texts for tests and benchmarks: the posts (SPECIFICATION 16.1), seeded random texts, texts
 //! with one fault, texts at and over each limit, and texts of a chosen size.
 
 #![forbid(unsafe_code)]

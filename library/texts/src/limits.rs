@@ -1,4 +1,4 @@
-//! Texts just at a limit of document 01 and just over it.
+//! Texts just at a limit (SPECIFICATION 4.3) and just over it.
 
 use crate::model::{Comparison, Edge, Model};
 use crate::random::Random;

@@ -1,4 +1,4 @@
-//! The five posts of document 01.
+//! The five posts of SPECIFICATION 16.1.
 
 fn build(bound: usize, invariant: bool, late: bool, rearm: bool) -> Vec<u8> {
     let wait = if invariant { format!("Wait {{ x <= {bound} }}") } else { "Wait".to_string() };

@@ -69,7 +69,7 @@ fn text(clocks: &str, names: &[String], locations: &str, edges: &[String]) -> Ve
     text.into_bytes()
 }
 
-/// The post of document 01 with a larger bound and a second clock that a spike sets to 0: two
+/// The post of SPECIFICATION 16.1 with a larger bound and a second clock that a spike sets to 0: two
 /// locations, `values` × `values` / 2 clock values, so about `values`² states; a part of the pairs is related.
 pub fn scaled_post(values: usize) -> Vec<u8> {
     let (top, second) = (values - 2, values / 2 - 2);

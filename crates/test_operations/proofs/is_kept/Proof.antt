@@ -1,14 +1,15 @@
 -- `test_operations::is_kept` is safe and ends.
 use borrow.Author.Needs.{needs}
 use Prim.Native.Nat.{_≤_, _-_}
+use lib.ListN.{length}
 use Rattle.test_operations.proofs.is_kept.Statement.{statement}
 use Rattle.test_operations.proofs.is_kept.Tie as tie
 
 abbrev Inv-loop : tie.InvT-loop
-Inv-loop s i₀ i = i ≤ 2048
+Inv-loop s i₀ i = i ≤ length s
 
 abbrev μ-loop : tie.MeasureT-loop
-μ-loop s i₀ i = 2048 - i
+μ-loop s i₀ i = length s - i
 
 pub is-kept-spec : {M : Type 1} → statement M
 is-kept-spec =
@@ -16,7 +17,6 @@ is-kept-spec =
     (tie.spec
     Inv-loop
     μ-loop
-    (λ c. search needs)
     (λ c. search needs)
     (λ c. search needs)
     (λ c. search needs)

@@ -8,10 +8,10 @@ use Rattle.test_reader.proofs.lay.Statement.{statement}
 use Rattle.test_reader.proofs.lay.Tie as tie
 
 abbrev Inv-loop : tie.InvT-loop
-Inv-loop t room₀ i₀ room i = length room ≡ length room₀
+Inv-loop t from room₀ i₀ room i = length room ≡ length room₀
 
 abbrev μ-loop : tie.MeasureT-loop
-μ-loop t room₀ i₀ room i = length room - i
+μ-loop t from room₀ i₀ room i = length room - i
 
 loop-holds : tie.Need-loop-holds Inv-loop μ-loop
 loop-holds c = refl

@@ -1,0 +1,884 @@
+// Small random texts (SPECIFICATION 2 to 4), each a function of a shape: a choice depends on a seed and on what it is about,
+// so that a text can be written again with one thing changed. While a text is written, the first refusal that its change
+// brings is noted, so that the answer of reading is known without a reader. Proved safe and ending, no more.
+use limits::CHANNEL_LIMIT;
+use limits::CLOCK_LIMIT;
+use limits::COMPARISON_LIMIT;
+use limits::EDGE_LIMIT;
+use limits::LARGEST_CONSTANT;
+use limits::LARGEST_NAME;
+use limits::LOCATION_LIMIT;
+
+// What a text is like: `size` rules how many items it has, `seed` what it says, `gap` how it is spaced and named, in which
+// order its channels are declared, and at which location and channel the change is. Small structs keep the proofs short.
+pub struct Shape {
+    pub size: u32,
+    pub seed: u32,
+    pub gap: u32,
+    pub change: usize,
+}
+
+// How far a text is written, how many edges it has, and the first refusal that is known of it: its code, 0 for none, and
+// its place.
+pub struct Pen {
+    pub at: usize,
+    pub edges: usize,
+    pub code: usize,
+    pub place: usize,
+}
+
+// The codes that are known of a text (SPECIFICATION 4.5).
+const MISFIT: usize = 2;
+
+const NAME_TOO_LONG: usize = 3;
+
+const DECLARED_BEFORE: usize = 4;
+
+const UNKNOWN_NAME: usize = 5;
+
+const CONSTANT_TOO_LARGE: usize = 6;
+
+const TOO_MANY_ITEMS: usize = 7;
+
+// The changes. Those before OTHER_OUTPUT mostly keep a text accepted, and come up more often.
+const NO_CHANGE: usize = 0;
+
+const SHIFTED_BOUND: usize = 1;
+
+const OTHER_TARGET: usize = 2;
+
+const OTHER_RESETS: usize = 3;
+
+const LONGER_STAY: usize = 4;
+
+const NO_INVARIANT: usize = 5;
+
+const OTHER_OUTPUT: usize = 6;
+
+const DROPPED_EDGE: usize = 7;
+
+const DOUBLED_EDGE: usize = 8;
+
+const OVERLAP: usize = 9;
+
+const RENAMED: usize = 10;
+
+const OTHER_MARK: usize = 11;
+
+const ONE_MARK: usize = 12;
+
+const LARGE_BOUND: usize = 13;
+
+const TOO_LARGE_BOUND: usize = 14;
+
+const LONG_CHANNEL: usize = 15;
+
+const LONG_CLOCK: usize = 16;
+
+const LONG_LOCATION: usize = 17;
+
+const MANY_CHANNELS: usize = 18;
+
+const MANY_CLOCKS: usize = 19;
+
+const MANY_LOCATIONS: usize = 20;
+
+const LONG_INVARIANT: usize = 21;
+
+const LONG_GUARD: usize = 22;
+
+const STRAY_BYTE: usize = 23;
+
+const CUT_OFF: usize = 24;
+
+const SAME_NAME: usize = 25;
+
+const OTHER_NAME: usize = 26;
+
+const CHANGES: usize = 27;
+
+// What is chosen. To the first ones the number of an edge in its group or of a comparison is added.
+const TARGETS: usize = 8;
+
+const RESETS: usize = 16;
+
+const ALL_RESETS: usize = 24;
+
+const CLOCKS: usize = 32;
+
+const BOUNDS: usize = 40;
+
+const COUNTS: usize = 48;
+
+const GROUPS: usize = 49;
+
+const SIGNS: usize = 50;
+
+const STARTS: usize = 51;
+
+const WHITES: usize = 52;
+
+const BLANKS: usize = 53;
+
+const STRAYS: usize = 54;
+
+const LETTERS: usize = 55;
+
+const EXCESSES: usize = 56;
+
+const WIDTHS: usize = 57;
+
+const PLACES: usize = 58;
+
+const BYTES: usize = 59;
+
+const CONSTANTS: usize = 60;
+
+const CHANNELS: usize = 61;
+
+const LOCATIONS: usize = 62;
+
+const TURNS: usize = 63;
+
+const CHANGE: usize = 64;
+
+const PARTS: usize = 65;
+
+// Most texts have fewer channels of a direction, at most as many locations, and constants below this number.
+const FEW: usize = 4;
+
+const MOST_BLANKS: usize = 3;
+
+// How often something comes up: one time in so many, or some times in so many.
+const EITHER: usize = 2;
+
+const CHANGE_ODDS: usize = 32;
+
+const WHITE_ODDS: usize = 6;
+
+const INVARIANT_ODDS: usize = 10;
+
+const GROUP_ODDS: usize = 8;
+
+const STRAY_ODDS: usize = 24;
+
+const OPEN_ODDS: usize = 24;
+
+const SECOND_ODDS: usize = 4;
+
+const WIDE_ODDS: usize = 8;
+
+const LARGE_ODDS: usize = 16;
+
+// The items of a list, and the signs of a comparison.
+const CHANNEL_ITEMS: usize = 0;
+
+const CLOCK_ITEMS: usize = 1;
+
+const LOCATION_ITEMS: usize = 2;
+
+const EDGE_ITEMS: usize = 3;
+
+const NO_SIGN: usize = 0;
+
+const AT_MOST: usize = 1;
+
+const AT_LEAST: usize = 2;
+
+const SIGN_COUNT: usize = 4;
+
+// The edges of a group, one of them doubled; the groups of a location; and the edges of the largest text, so counted.
+const GROUP_EDGES: usize = 4;
+
+const LOCATION_EDGES: usize = (CHANNEL_LIMIT + 1) * GROUP_EDGES;
+
+const ALL_EDGES: usize = (LOCATION_LIMIT + 1) * LOCATION_EDGES;
+
+// The channel of an invariant, which has none.
+const INVARIANT: usize = CHANNEL_LIMIT + 1;
+
+// All three clocks, a bit each.
+const EVERY_CLOCK: usize = 7;
+
+const SECOND_CLOCK: usize = 2;
+
+const THIRD_CLOCK: usize = 4;
+
+// The shifts of the xorshift generator of 32 bits, how much of a number is mixed in, and the low bits that are left out.
+const FIRST_SHIFT: u32 = 13;
+
+const SECOND_SHIFT: u32 = 17;
+
+const THIRD_SHIFT: u32 = 5;
+
+const MIXED_IN: usize = 65536;
+
+const LEFT_OUT: usize = 8;
+
+const TEN: usize = 10;
+
+const HUNDRED: usize = 100;
+
+const THOUSAND: usize = 1000;
+
+fn plus(a: usize, b: usize) -> usize {
+    std::num::wrapping_add_usize(a, b)
+}
+
+fn mix(x: u32) -> u32 {
+    let a = x ^ (x << FIRST_SHIFT);
+    let b = a ^ (a >> SECOND_SHIFT);
+    b ^ (b << THIRD_SHIFT)
+}
+
+fn with(x: u32, y: usize) -> u32 {
+    mix(std::num::wrapping_add_u32(mix(x), (y % MIXED_IN) as u32))
+}
+
+// A number below n that depends on a seed, on what is chosen and on what for; 0 where n is 0.
+pub fn pick(seed: u32, what: usize, a: usize, b: usize, n: usize) -> usize {
+    let x = mix(mix(with(with(with(seed, what), a), b)));
+    if n == 0 {
+        return 0;
+    }
+    (x as usize) / LEFT_OUT % n
+}
+
+// A seed for a part of a test.
+pub fn part(seed: u32, k: usize) -> u32 {
+    with(with(seed, k), PARTS)
+}
+
+// 0 or 1.
+fn excess(g: Shape) -> usize {
+    pick(g.gap, EXCESSES, 0, 0, EITHER)
+}
+
+// The numbers of items. A change makes them as many as there may be, or one more (SPECIFICATION 4.3).
+pub fn clocks(g: Shape) -> usize {
+    if g.change == MANY_CLOCKS {
+        return plus(CLOCK_LIMIT, excess(g));
+    }
+    pick(g.size, CLOCKS, 0, 0, CLOCK_LIMIT + 1)
+}
+
+fn inputs(g: Shape) -> usize {
+    pick(g.size, CHANNELS, 0, 0, FEW)
+}
+
+pub fn channels(g: Shape) -> usize {
+    if g.change == MANY_CHANNELS {
+        return plus(CHANNEL_LIMIT, excess(g));
+    }
+    plus(inputs(g), pick(g.size, CHANNELS, 1, 0, FEW))
+}
+
+pub fn locations(g: Shape) -> usize {
+    if g.change == MANY_LOCATIONS {
+        return plus(LOCATION_LIMIT, excess(g));
+    }
+    plus(pick(g.size, LOCATIONS, 0, 0, FEW), 1)
+}
+
+// Constants are below this number, which is small where there are many clocks, so that there are few states.
+fn constants(g: Shape) -> usize {
+    if pick(g.size, CONSTANTS, 0, 0, LARGE_ODDS) == 0 {
+        return FEW;
+    }
+    match clocks(g) {
+        0 | 1 => FEW + 1,
+        2 => plus(pick(g.size, CONSTANTS, 1, 0, EITHER), 1),
+        _ => 1,
+    }
+}
+
+// Whether the change is at a location, and at a channel.
+fn is_there(g: Shape, l: usize) -> bool {
+    pick(g.gap, LOCATIONS, 0, 0, locations(g)) == l
+}
+
+fn is_about(g: Shape, c: usize) -> bool {
+    pick(g.gap, CHANNELS, 0, 0, channels(g)) == c
+}
+
+fn change_at(g: Shape, l: usize, c: usize) -> usize {
+    if is_there(g, l) && is_about(g, c) {
+        return g.change;
+    }
+    NO_CHANGE
+}
+
+// What a text says at a location and a channel.
+fn choice(g: Shape, what: usize, l: usize, c: usize, n: usize) -> usize {
+    pick(g.seed, what, l, c, n)
+}
+
+// Notes a code at the place that is reached, unless one is known before it (SPECIFICATION 4.6).
+fn noted(p: Pen, code: usize) -> Pen {
+    let mut q = p;
+    if p.code == 0 {
+        q.code = code;
+        q.place = p.at;
+    }
+    q
+}
+
+fn put(buf: &mut [u8], p: Pen, x: u8) -> Pen {
+    let at = p.at;
+    if buf.len() <= at {
+        return p;
+    }
+    buf[at] = x;
+    let mut q = p;
+    q.at = at + 1;
+    q
+}
+
+// Space, tab, CR or LF.
+fn white(g: Shape, at: usize) -> u8 {
+    match pick(g.gap, WHITES, at, 0, WHITE_ODDS) {
+        0 => b'\t',
+        1 => b'\r',
+        2 => b'\n',
+        _ => b' ',
+    }
+}
+
+// A byte n times.
+fn again(buf: &mut [u8], p: Pen, x: u8, n: usize) -> Pen {
+    let mut q = p;
+    for _ in 0..n {
+        q = put(&mut *buf, q, x);
+    }
+    q
+}
+
+fn blanks(buf: &mut [u8], p: Pen, g: Shape, least: usize) -> Pen {
+    let n = plus(least, pick(g.gap, BLANKS, p.at, 0, MOST_BLANKS));
+    again(buf, p, white(g, p.at), n)
+}
+
+// Between two tokens: a byte that starts none, or the place where the text is cut off, if that is the change.
+fn stray(buf: &mut [u8], p: Pen, g: Shape) -> Pen {
+    if p.code != 0 || pick(g.gap, STRAYS, p.at, 0, STRAY_ODDS) != 0 {
+        return p;
+    }
+    if g.change == STRAY_BYTE {
+        return put(buf, noted(p, MISFIT), b'@');
+    }
+    if g.change == CUT_OFF {
+        return noted(p, MISFIT);
+    }
+    p
+}
+
+// Between tokens, or a byte of one.
+fn piece(buf: &mut [u8], p: Pen, g: Shape, x: u8) -> Pen {
+    if x != b' ' && x != b'~' {
+        return put(buf, p, x);
+    }
+    let q = stray(&mut *buf, p, g);
+    if x == b' ' {
+        return blanks(buf, q, g, 1);
+    }
+    blanks(buf, q, g, 0)
+}
+
+// Words and marks: a space stands for one white byte or more, `~` for any number.
+fn words(buf: &mut [u8], p: Pen, g: Shape, w: &[u8]) -> Pen {
+    let mut q = p;
+    for i in 0..w.len() {
+        q = piece(&mut *buf, q, g, w[i]);
+    }
+    q
+}
+
+fn even_or_odd(i: usize, even: u8, odd: u8) -> u8 {
+    if i % 2 == 0 {
+        return even;
+    }
+    odd
+}
+
+// The letters before the last byte of name n: few, or as many as there may be, or one more.
+fn letters(g: Shape, is_long: bool, n: usize) -> usize {
+    if is_long {
+        return plus(LARGEST_NAME - 1, excess(g));
+    }
+    plus(n / 2, 1)
+}
+
+// A name: a letter n times, then a last byte. Names of one letter differ in their length or in that byte.
+fn name(buf: &mut [u8], p: Pen, letter: u8, n: usize, last: u8) -> Pen {
+    let mut q = p;
+    if LARGEST_NAME <= n {
+        q = noted(p, NAME_TOO_LONG);
+    }
+    q = again(&mut *buf, q, letter, n);
+    put(buf, q, last)
+}
+
+fn channel(buf: &mut [u8], p: Pen, g: Shape, c: usize) -> Pen {
+    let mut last = even_or_odd(c, b'a', b'b');
+    if g.change == RENAMED && is_about(g, c) {
+        last = b'c';
+    }
+    let n = letters(g, g.change == LONG_CHANNEL && is_about(g, c), c);
+    name(buf, p, b'a', n, last)
+}
+
+fn clock(buf: &mut [u8], p: Pen, g: Shape, k: usize) -> Pen {
+    let letter = even_or_odd(pick(g.gap, LETTERS, 0, 0, EITHER), b'x', b'_');
+    let n = letters(g, g.change == LONG_CLOCK && k == 0, k);
+    name(buf, p, letter, n, even_or_odd(k, b'X', b'9'))
+}
+
+// One location may have the name of the first.
+fn location(buf: &mut [u8], p: Pen, g: Shape, l: usize) -> Pen {
+    let letter = even_or_odd(pick(g.gap, LETTERS, 1, 0, EITHER), b'L', b's');
+    if g.change == SAME_NAME && is_there(g, l) {
+        return name(buf, p, letter, letters(g, false, 0), b'0');
+    }
+    let n = letters(g, g.change == LONG_LOCATION && is_there(g, l), l);
+    name(buf, p, letter, n, even_or_odd(l, b'0', b'Z'))
+}
+
+fn digit(buf: &mut [u8], p: Pen, n: usize) -> Pen {
+    put(buf, p, (n % TEN) as u8 + b'0')
+}
+
+// A numeral of one digit or of four.
+fn numeral(buf: &mut [u8], p: Pen, g: Shape, n: usize) -> Pen {
+    let mut q = p;
+    if LARGEST_CONSTANT < n {
+        q = noted(p, CONSTANT_TOO_LARGE);
+    }
+    if n < TEN && pick(g.gap, WIDTHS, p.at, 0, WIDE_ODDS) != 0 {
+        return digit(buf, q, n);
+    }
+    q = digit(&mut *buf, q, n / THOUSAND);
+    q = digit(&mut *buf, q, n / HUNDRED);
+    q = digit(&mut *buf, q, n / TEN);
+    digit(buf, q, n)
+}
+
+fn either(buf: &mut [u8], p: Pen, g: Shape, is_first: bool, v: &[u8], w: &[u8]) -> Pen {
+    if is_first {
+        return words(buf, p, g, v);
+    }
+    words(buf, p, g, w)
+}
+
+// What stands before item i of a list, which begins where this ends; an item over the limit is noted.
+fn before(
+    buf: &mut [u8],
+    p: Pen,
+    g: Shape,
+    i: usize,
+    limit: usize,
+    first: &[u8],
+    between: &[u8],
+) -> Pen {
+    let q = either(buf, p, g, i == 0, first, between);
+    if i == limit {
+        return noted(q, TOO_MANY_ITEMS);
+    }
+    q
+}
+
+// The end of a list that is written from a place on, if it has items.
+fn after(buf: &mut [u8], p: Pen, g: Shape, from: usize, w: &[u8]) -> Pen {
+    if p.at == from {
+        return p;
+    }
+    words(buf, p, g, w)
+}
+
+fn sign(buf: &mut [u8], p: Pen, g: Shape, sign: usize) -> Pen {
+    if sign == AT_MOST {
+        return words(buf, p, g, b"~<=~");
+    }
+    if sign == AT_LEAST {
+        return words(buf, p, g, b"~>=~");
+    }
+    words(buf, p, g, b"~==~")
+}
+
+// How many comparisons an invariant has.
+fn invariant_count(g: Shape, l: usize) -> usize {
+    if clocks(g) == 0 {
+        return 0;
+    }
+    if g.change == NO_INVARIANT && is_there(g, l) {
+        return 0;
+    }
+    if g.change == LONG_INVARIANT && is_there(g, l) {
+        return plus(COMPARISON_LIMIT, excess(g));
+    }
+    match choice(g, COUNTS, l, INVARIANT, INVARIANT_ODDS) {
+        0..=2 => 1,
+        3 => 2,
+        _ => 0,
+    }
+}
+
+// The edges of a location and a channel are a group: none, one, or two or three that split the values of a clock.
+fn group_size(g: Shape, l: usize, c: usize) -> usize {
+    let mut n = match choice(g, GROUPS, l, c, GROUP_ODDS) {
+        0 | 1 => 0,
+        2..=4 => 1,
+        5 | 6 => 2,
+        _ => 3,
+    };
+    if c < inputs(g) && n == 0 {
+        n = 1;
+    }
+    if clocks(g) == 0 && 1 < n {
+        n = 1;
+    }
+    if change_at(g, l, c) != OTHER_OUTPUT {
+        return n;
+    }
+    if n == 0 {
+        return 1;
+    }
+    0
+}
+
+// The sign of edge j of a group: the first edge of several is for the values up to a bound, the last for those from a bound
+// on, one between for a value. A single edge of an output may have any sign.
+fn sign_of(g: Shape, l: usize, c: usize, j: usize) -> usize {
+    let n = group_size(g, l, c);
+    if n <= 1 {
+        if c < inputs(g) || clocks(g) == 0 {
+            return NO_SIGN;
+        }
+        return choice(g, SIGNS, l, c, SIGN_COUNT);
+    }
+    if j == 0 {
+        return AT_MOST;
+    }
+    if plus(j, 1) == n {
+        return AT_LEAST;
+    }
+    plus(AT_LEAST, 1)
+}
+
+// How many comparisons stand in the guard of an edge, or in the invariant of a location.
+fn comparison_count(g: Shape, l: usize, c: usize, j: usize) -> usize {
+    if c == INVARIANT {
+        return invariant_count(g, l);
+    }
+    if sign_of(g, l, c, j) == NO_SIGN {
+        return 0;
+    }
+    if change_at(g, l, c) == LONG_GUARD {
+        return plus(COMPARISON_LIMIT, excess(g));
+    }
+    if choice(g, COUNTS, l, c, SECOND_ODDS) == 0 {
+        return 2;
+    }
+    1
+}
+
+// The sign of comparison i.
+fn sign_at(g: Shape, l: usize, c: usize, j: usize, i: usize) -> usize {
+    if c == INVARIANT {
+        return AT_MOST;
+    }
+    if i == 0 {
+        return sign_of(g, l, c, j);
+    }
+    AT_LEAST
+}
+
+// The bound of comparison i. The other comparisons of an input's guard are always true.
+fn bound_at(g: Shape, l: usize, c: usize, j: usize, i: usize) -> usize {
+    if 0 < i && c < inputs(g) {
+        return 0;
+    }
+    let b = choice(g, plus(BOUNDS, i), l, c, constants(g));
+    if c == INVARIANT {
+        if g.change == LONGER_STAY && is_there(g, l) {
+            return plus(b, 1);
+        }
+        return b;
+    }
+    match change_at(g, l, c) {
+        SHIFTED_BOUND => plus(plus(b, j), 1),
+        OVERLAP => b,
+        LARGE_BOUND => LARGEST_CONSTANT,
+        TOO_LARGE_BOUND => LARGEST_CONSTANT + 1,
+        _ => plus(b, j),
+    }
+}
+
+fn comparison(buf: &mut [u8], p: Pen, g: Shape, l: usize, c: usize, j: usize, i: usize) -> Pen {
+    let mut q = clock(&mut *buf, p, g, choice(g, plus(CLOCKS, i), l, c, clocks(g)));
+    q = sign(&mut *buf, q, g, sign_at(g, l, c, j, i));
+    numeral(buf, q, g, bound_at(g, l, c, j, i))
+}
+
+fn comparisons(
+    buf: &mut [u8],
+    p: Pen,
+    g: Shape,
+    l: usize,
+    c: usize,
+    j: usize,
+    first: &[u8],
+    last: &[u8],
+) -> Pen {
+    let mut q = p;
+    let n = comparison_count(g, l, c, j);
+    for i in 0..n {
+        q = before(&mut *buf, q, g, i, COMPARISON_LIMIT, first, b"~&&~");
+        q = comparison(&mut *buf, q, g, l, c, j, i);
+    }
+    after(buf, q, g, p.at, last)
+}
+
+// The number of the channel that is declared at a place: they are declared from one of them on.
+fn declared(g: Shape, i: usize) -> usize {
+    let n = channels(g);
+    if n == 0 {
+        return 0;
+    }
+    plus(pick(g.gap, TURNS, 0, 0, n), i) % n
+}
+
+// How many edges of a group are written: the last one may be dropped, or the first one written again.
+fn written_edges(g: Shape, l: usize, c: usize) -> usize {
+    let n = group_size(g, l, c);
+    let change = change_at(g, l, c);
+    if change == DROPPED_EDGE && 0 < n {
+        return n - 1;
+    }
+    if change == DOUBLED_EDGE {
+        return plus(n, 1);
+    }
+    n
+}
+
+// Where an edge leads: one may lead to a location that is not declared.
+fn target_of(g: Shape, l: usize, c: usize, j: usize) -> usize {
+    let n = locations(g);
+    let t = choice(g, plus(TARGETS, j), l, c, n);
+    let change = change_at(g, l, c);
+    if change == OTHER_NAME {
+        return n;
+    }
+    if change != OTHER_TARGET {
+        return t;
+    }
+    if plus(t, 1) < n {
+        return plus(t, 1);
+    }
+    0
+}
+
+// All clocks are mostly set to 0 on the way to another location with an invariant, which then holds.
+fn resets_of(g: Shape, l: usize, c: usize, j: usize) -> usize {
+    let r = choice(g, plus(RESETS, j), l, c, EVERY_CLOCK + 1);
+    if change_at(g, l, c) == OTHER_RESETS {
+        return r ^ EVERY_CLOCK;
+    }
+    let t = target_of(g, l, c, j);
+    if t == l || invariant_count(g, t) == 0 {
+        return r;
+    }
+    if choice(g, plus(ALL_RESETS, j), l, c, OPEN_ODDS) == 0 {
+        return r;
+    }
+    EVERY_CLOCK
+}
+
+fn is_reset(set: usize, k: usize) -> bool {
+    match k {
+        0 => set % 2 == 1,
+        1 => set / SECOND_CLOCK % 2 == 1,
+        _ => set / THIRD_CLOCK % 2 == 1,
+    }
+}
+
+// The reset of a clock that is in the set; the list of resets begins at `from`.
+fn reset(buf: &mut [u8], p: Pen, g: Shape, set: usize, k: usize, from: usize) -> Pen {
+    if clocks(g) <= k || !is_reset(set, k) {
+        return p;
+    }
+    let mut q = either(&mut *buf, p, g, p.at == from, b"assign ", b"~,~");
+    q = clock(&mut *buf, q, g, k);
+    q = words(&mut *buf, q, g, b"~=~");
+    numeral(buf, q, g, 0)
+}
+
+fn resets(buf: &mut [u8], p: Pen, g: Shape, set: usize) -> Pen {
+    let mut q = reset(&mut *buf, p, g, set, 0, p.at);
+    q = reset(&mut *buf, q, g, set, 1, p.at);
+    q = reset(&mut *buf, q, g, set, 2, p.at);
+    after(buf, q, g, p.at, b"~;~")
+}
+
+// Whether the mark is that of an input: the first channels are inputs, but for a change.
+fn is_input(g: Shape, l: usize, c: usize) -> bool {
+    let is_other = g.change == OTHER_MARK && is_about(g, c) || change_at(g, l, c) == ONE_MARK;
+    (c < inputs(g)) != is_other
+}
+
+fn sync(buf: &mut [u8], p: Pen, g: Shape, l: usize, c: usize) -> Pen {
+    let mut q = words(&mut *buf, p, g, b"sync ");
+    q = channel(&mut *buf, q, g, c);
+    either(buf, q, g, is_input(g, l, c), b"~?~;~", b"~!~;~")
+}
+
+fn source(buf: &mut [u8], p: Pen, g: Shape, l: usize) -> Pen {
+    let q = before(&mut *buf, p, g, p.edges, EDGE_LIMIT, b"trans ", b"~,~");
+    location(buf, q, g, l)
+}
+
+fn target(buf: &mut [u8], p: Pen, g: Shape, t: usize) -> Pen {
+    let mut q = words(&mut *buf, p, g, b"~->~");
+    if t == locations(g) {
+        q = noted(q, UNKNOWN_NAME);
+    }
+    q = location(&mut *buf, q, g, t);
+    words(buf, q, g, b"~{~")
+}
+
+// What stands between the braces of an edge.
+fn label(buf: &mut [u8], p: Pen, g: Shape, l: usize, c: usize, j: usize) -> Pen {
+    let mut q = comparisons(&mut *buf, p, g, l, c, j, b"guard ", b"~;~");
+    q = sync(&mut *buf, q, g, l, c);
+    resets(buf, q, g, resets_of(g, l, c, j))
+}
+
+fn edge(buf: &mut [u8], p: Pen, g: Shape, l: usize, c: usize, j: usize) -> Pen {
+    let mut q = source(&mut *buf, p, g, l);
+    q = target(&mut *buf, q, g, target_of(g, l, c, j));
+    q = label(&mut *buf, q, g, l, c, j);
+    q = put(buf, q, b'}');
+    q.edges = plus(q.edges, 1);
+    q
+}
+
+// Edge i, if there is one: edges are counted as if every group were full.
+fn edge_at(buf: &mut [u8], p: Pen, g: Shape, i: usize) -> Pen {
+    let l = i / LOCATION_EDGES;
+    let c = i % LOCATION_EDGES / GROUP_EDGES;
+    let j = i % GROUP_EDGES;
+    if locations(g) <= l || channels(g) <= c {
+        return p;
+    }
+    if written_edges(g, l, c) <= j {
+        return p;
+    }
+    if group_size(g, l, c) <= j {
+        return edge(buf, p, g, l, c, 0);
+    }
+    edge(buf, p, g, l, c, j)
+}
+
+fn location_item(buf: &mut [u8], p: Pen, g: Shape, l: usize) -> Pen {
+    let mut q = before(&mut *buf, p, g, l, LOCATION_LIMIT, b"state ", b"~,~");
+    if g.change == SAME_NAME && is_there(g, l) && 0 < l {
+        q = noted(q, DECLARED_BEFORE);
+    }
+    q = location(&mut *buf, q, g, l);
+    comparisons(buf, q, g, l, INVARIANT, 0, b"~{~", b"~}")
+}
+
+fn item(buf: &mut [u8], p: Pen, g: Shape, kind: usize, i: usize) -> Pen {
+    if kind == LOCATION_ITEMS {
+        return location_item(buf, p, g, i);
+    }
+    if kind == EDGE_ITEMS {
+        return edge_at(buf, p, g, i);
+    }
+    if kind == CLOCK_ITEMS {
+        let q = before(&mut *buf, p, g, i, CLOCK_LIMIT, b"clock ", b"~,~");
+        return clock(buf, q, g, i);
+    }
+    let q = before(
+        &mut *buf,
+        p,
+        g,
+        i,
+        CHANNEL_LIMIT,
+        b"broadcast chan ",
+        b"~,~",
+    );
+    channel(buf, q, g, declared(g, i))
+}
+
+fn list(buf: &mut [u8], p: Pen, g: Shape, kind: usize, n: usize) -> Pen {
+    let mut q = p;
+    for i in 0..n {
+        q = item(&mut *buf, q, g, kind, i);
+    }
+    after(buf, q, g, p.at, b"~;~")
+}
+
+// All before the start.
+fn declarations(buf: &mut [u8], g: Shape) -> Pen {
+    let mut p = Pen {
+        at: 0,
+        edges: 0,
+        code: 0,
+        place: 0,
+    };
+    p = list(&mut *buf, p, g, CHANNEL_ITEMS, channels(g));
+    p = words(&mut *buf, p, g, b"process P~(~)~{~");
+    p = list(&mut *buf, p, g, CLOCK_ITEMS, clocks(g));
+    list(buf, p, g, LOCATION_ITEMS, locations(g))
+}
+
+fn start(buf: &mut [u8], p: Pen, g: Shape) -> Pen {
+    let mut q = words(&mut *buf, p, g, b"init ");
+    q = location(&mut *buf, q, g, choice(g, STARTS, 0, 0, locations(g)));
+    words(buf, q, g, b"~;~")
+}
+
+// The end; a text that is cut off ends before it.
+fn closing(buf: &mut [u8], p: Pen, g: Shape) -> Pen {
+    let mut q = words(&mut *buf, p, g, b"}~system P~;");
+    q = blanks(buf, q, g, 0);
+    if g.change == CUT_OFF && q.code == MISFIT {
+        q.at = q.place;
+    }
+    q
+}
+
+// Writes the text of a shape; it ends where the pen is.
+pub fn text(buf: &mut [u8], g: Shape) -> Pen {
+    let mut p = declarations(&mut *buf, g);
+    p = start(&mut *buf, p, g);
+    p = list(&mut *buf, p, g, EDGE_ITEMS, ALL_EDGES);
+    closing(buf, p, g)
+}
+
+// A byte of tokens, or one that starts none, in the place of one of the first n bytes.
+pub fn damage(buf: &mut [u8], n: usize, seed: u32) {
+    let tokens = b" ;,{}axL09=<>&?!_@(-";
+    let i = pick(seed, PLACES, 0, 0, n);
+    let k = pick(seed, BYTES, 0, 0, tokens.len());
+    if i < buf.len() && k < tokens.len() {
+        buf[i] = tokens[k];
+    }
+}
+
+// A shape with one change in `often` of CHANGE_ODDS times.
+pub fn shape_of(size: u32, seed: u32, gap: u32, often: usize) -> Shape {
+    let mut change = NO_CHANGE;
+    if pick(gap, CHANGE, 0, 0, CHANGE_ODDS) < often {
+        change = pick(gap, CHANGE, 1, 0, CHANGES);
+        if pick(gap, CHANGE, 2, 0, EITHER) == 0 {
+            change = change % OTHER_OUTPUT;
+        }
+    }
+    Shape {
+        size,
+        seed,
+        gap,
+        change,
+    }
+}

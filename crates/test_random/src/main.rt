@@ -1,0 +1,154 @@
+// Small random texts and pairs of them through the five operations, compared with the plain enumerator: the answers and
+// everything that is lent. Prints one line: the calls by kind of answer, and the differences, which are 0.
+use enumerator::moves::ACCEPTED;
+use libc::STDOUT_FILENO;
+use limits::LARGEST_TEXT;
+use random_calls::DEPARTURES;
+use random_calls::DIFFERENCES;
+use random_calls::LEFT_OUT;
+use random_calls::NO_DEPARTURE;
+use random_calls::TALLY;
+use random_calls::WITH_START;
+use random_texts::Pen;
+use random_texts::Shape;
+
+// The number of pairs of texts, and the seed of them all.
+const CASES: usize = 4000;
+
+const SEED: u32 = 2026;
+
+// Of 32 texts so many are changed.
+const LEFT_CHANGES: usize = 4;
+
+const RIGHT_CHANGES: usize = 24;
+
+// One of so many is damaged, has another seed on the right, or stands beside a text that is too long.
+const DAMAGED: usize = 16;
+
+const OTHER: usize = 3;
+
+const LONG: usize = 256;
+
+// Parts of a seed.
+const LEFT: usize = 1;
+
+const RIGHT: usize = 2;
+
+const OTHERS: usize = 3;
+
+const DAMAGES: usize = 4;
+
+const LONGS: usize = 5;
+
+fn is_one_of(seed: u32, what: usize, n: usize) -> bool {
+    random_texts::pick(seed, what, 0, 0, n) == 0
+}
+
+fn is_damaged(g: Shape) -> bool {
+    is_one_of(g.gap, DAMAGES, DAMAGED)
+}
+
+fn write_text(buf: &mut [u8], g: Shape) -> Pen {
+    let p = random_texts::text(&mut *buf, g);
+    if is_damaged(g) {
+        random_texts::damage(buf, p.at, g.gap);
+    }
+    p
+}
+
+fn both_orders(left: &[u8], right: &[u8], seed: u32, tally: &mut [usize]) {
+    random_calls::all_cases(left, right, seed, &mut *tally);
+    random_calls::all_cases(right, left, seed, tally);
+}
+
+// A text beside one that is a byte too long (SPECIFICATION 4.3).
+fn long_cases(text: &[u8], seed: u32, tally: &mut [usize]) {
+    if !is_one_of(seed, LONGS, LONG) {
+        return;
+    }
+    let long = io::large_buffer();
+    let a: usize = 0;
+    let n = LARGEST_TEXT + 1;
+    both_orders(text, &long[a..n], seed, tally);
+}
+
+// Reading of a text that is written in the first bytes of a buffer.
+fn read_text(buf: &[u8], p: Pen, g: Shape, tally: &mut [usize]) {
+    let a: usize = 0;
+    let n = p.at;
+    if n <= buf.len() {
+        random_calls::read_case(&buf[a..n], g, p, is_damaged(g), tally);
+    }
+}
+
+// All operations on two texts that are so written.
+fn two_texts(left: &[u8], n: usize, right: &[u8], m: usize, seed: u32, tally: &mut [usize]) {
+    let a: usize = 0;
+    if n <= left.len() && m <= right.len() {
+        random_calls::all_cases(&left[a..n], &right[a..m], seed, &mut *tally);
+        long_cases(&left[a..n], seed, tally);
+    }
+}
+
+// The texts of two shapes.
+fn text_cases(g: Shape, h: Shape, seed: u32, tally: &mut [usize]) {
+    let mut left = [0u8; LARGEST_TEXT];
+    let mut right = [0u8; LARGEST_TEXT];
+    let p = write_text(&mut left, g);
+    let q = write_text(&mut right, h);
+    read_text(&left, p, g, &mut *tally);
+    read_text(&right, q, h, &mut *tally);
+    two_texts(&left, p.at, &right, q.at, seed, tally);
+}
+
+// The right text mostly says the same as the left, with one change.
+fn one_case(i: usize, tally: &mut [usize]) {
+    let seed = random_texts::part(SEED, i);
+    let mut other = seed;
+    if is_one_of(seed, OTHERS, OTHER) {
+        other = random_texts::part(seed, OTHERS);
+    }
+    let left = random_texts::shape_of(seed, seed, random_texts::part(seed, LEFT), LEFT_CHANGES);
+    let right = random_texts::shape_of(seed, other, random_texts::part(seed, RIGHT), RIGHT_CHANGES);
+    text_cases(left, right, seed, tally);
+}
+
+fn run_cases(tally: &mut [usize]) {
+    for i in 0..CASES {
+        one_case(i, &mut *tally);
+    }
+}
+
+fn put_entry(w: &[u8], tally: &[usize], k: usize) {
+    programs::put(w);
+    if k < tally.len() {
+        io::print_decimal(STDOUT_FILENO, tally[k] as u64);
+    }
+}
+
+// A code and the number of calls that it answers.
+fn put_code(tally: &[usize], k: usize) {
+    programs::put(b" ");
+    io::print_decimal(STDOUT_FILENO, k as u64);
+    put_entry(b":", tally, k);
+}
+
+fn put_codes(tally: &[usize]) {
+    for k in 1..DIFFERENCES {
+        put_code(tally, k);
+    }
+}
+
+fn main() {
+    let mut tally = [0usize; TALLY];
+    run_cases(&mut tally);
+    put_entry(b"differences ", &tally, DIFFERENCES);
+    put_entry(b", departures ", &tally, DEPARTURES);
+    put_entry(b", none ", &tally, NO_DEPARTURE);
+    put_entry(b", start pairs ", &tally, WITH_START);
+    put_entry(b", left out ", &tally, LEFT_OUT);
+    put_entry(b", accepted ", &tally, ACCEPTED);
+    programs::put(b", refused");
+    put_codes(&tally);
+    programs::put(b"\n");
+}

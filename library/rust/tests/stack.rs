@@ -1,0 +1,46 @@
+//! Five eighths of `STACK` are enough for each call: `megzhoi.h` says what was measured.
+//!
+//! MEGZHOI_STACK=bytes tries another size; where it is too small, the test ends by a signal.
+use megzhoi::{here, keep_bytes, queue_entries, table_bytes, KEEP_BYTES, STACK};
+use std::thread;
+use texts::{chain, drifting, full_of_edges, full_of_tokens, post, Kind};
+
+/// All five operations on two texts, on the caller's thread.
+fn operations(left: &[u8], right: &[u8]) {
+    // SAFETY: whether the stack is large enough is what is tried here.
+    unsafe {
+        let (Ok(of_left), Ok(of_right)) = (here::read(left), here::read(right)) else { return };
+        let entries = queue_entries(of_left.states, of_right.states);
+        let (mut back, mut line, mut run) = (vec![0; entries], vec![0; entries], vec![0; entries]);
+        let mut keep = vec![0; keep_bytes(of_left.states)];
+        let mut table = vec![0; table_bytes(of_left.states, of_right.states)];
+        let safe = here::safe_states(left, &mut keep).expect("an accepted text");
+        let found = here::search(left, right, &mut keep, &mut back, &mut line, &mut run);
+        let made = here::widest(left, right, &mut keep, &mut table);
+        let checked = here::check(left, right, &mut [0; KEEP_BYTES], &table);
+        assert_eq!([found.is_ok(), made.is_ok()], [safe.start; 2]);
+        assert_eq!(checked.is_ok(), made.is_ok_and(|made| made.start));
+    }
+}
+
+/// Small and large texts; those of 4,096 states have the largest search.
+fn texts() -> Vec<(Vec<u8>, Vec<u8>)> {
+    vec![
+        (post(), post()),
+        (full_of_tokens(), full_of_tokens()),
+        (full_of_edges(8), full_of_edges(8)),
+        drifting(10, 16, Kind::Departing),
+        drifting(64, 4, Kind::Refining),
+        chain(128),
+    ]
+}
+
+#[test]
+fn five_eighths_are_enough() {
+    let bytes = std::env::var("MEGZHOI_STACK").map_or(STACK / 8 * 5, |value| value.parse().expect("a number"));
+    for (left, right) in texts() {
+        let call = move || operations(&left, &right);
+        let started = thread::Builder::new().stack_size(bytes).spawn(call);
+        started.expect("a thread").join().expect("the calls do not panic");
+    }
+}
