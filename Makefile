@@ -7,14 +7,17 @@
 # make programs   runs the three programs on some hundred pairs of files (needs python3)
 # make cases      writes the stored cases of the test programs anew (needs python3)
 # make library    the archive for C and Rust; c-example, differential and bench use it (cc; cargo)
+# make shared     the archive as a shared object, which bench and compare take as an older build (MEGZHOI_BEFORE=)
+# make compare    holds the library against the older build that MEGZHOI_BEFORE names, on some thousand pairs of texts
 DRAFT ?= examples/Rearm.xta
 CONTRACT ?= examples/Post.xta
 # The file of the table; c-example writes one only where TABLE is given.
 TABLE_FILE := $(or $(TABLE),target/run/table.pbm)
 PICTURE ?= target/run/table.png
 LIBRARY := target/staticlib/libmegzhoi_c.a
+SHARED := target/staticlib/libmegzhoi_c.so
 
-.PHONY: run table recheck picture test definitions programs cases library c-example differential bench
+.PHONY: run table recheck picture test definitions programs cases library shared c-example differential compare bench
 
 run:
 	@scripts/ask megzhoi "$(DRAFT)" "$(CONTRACT)"
@@ -50,6 +53,10 @@ library: $(LIBRARY)
 $(LIBRARY): crates.txt $(shell find crates -name '*.rt' -o -name '*.antt')
 	@scripts/prove megzhoi_c staticlib
 
+# Kept aside, it is the older build for a later library.
+shared: library
+	@$(CC) -shared -o $(SHARED) -Wl,--whole-archive $(LIBRARY) -Wl,--no-whole-archive
+
 # The program's status is 0 for YES, 1 for NO and 2 for a refusal or a fault: YES and NO are both answers.
 c-example: library
 	@mkdir -p target/run
@@ -60,5 +67,9 @@ differential: library
 	@cargo test --offline --release --quiet --package plain --package megzhoi
 	@cargo run --offline --release --quiet --package differential
 
+compare: library
+	@cargo run --offline --release --quiet --package differential -- before
+
+# With MEGZHOI_BEFORE=FILE the tables by kind show an older build, a shared object, beside this one.
 bench: library
 	@cargo run --offline --release --quiet --package bench

@@ -99,10 +99,10 @@ static inline const char *megzhoi_code_text(size_t code) {
 #define MEGZHOI_KEEP_BYTES 512
 
 /* The stack that each call of an operation is to have, with room to spare. Measured with threads of given sizes, in
-   steps of 0.1 MB (100,000 bytes): 2.5 MB were enough for every call, 2.4 MB were not for the search, and the other
-   operations did with 0.4 MB. library/rust/tests/stack.rs tries it again. On Linux the first thread of a process
-   usually has 8 MB, and a thread that a Rust program starts has 2 MB. */
-#define MEGZHOI_STACK ((size_t)4 << 20)
+   steps of 0.1 MB (100,000 bytes): 4.9 MB were enough for every call, 4.8 MB were not for the search of the largest
+   texts, which makes a table of its own, and the other operations did with 0.7 MB. library/rust/tests/stack.rs tries it
+   again. On Linux the first thread of a process usually has 8 MB, and a thread that a Rust program starts has 2 MB. */
+#define MEGZHOI_STACK ((size_t)6 << 20)
 
 /* The record of a text as numbers (SPECIFICATION 15.2); crates/reader_numbers/specs/Numbers.antt defines it. */
 enum {

@@ -8,8 +8,8 @@ pub struct Case {
     pub name: String,
     /// Compares the answers of the two; gives the number of units (pairs, states or bytes).
     pub compare: Box<dyn FnMut() -> usize>,
-    pub library: Box<dyn FnMut()>,
-    pub plain: Box<dyn FnMut()>,
+    /// The library's call and that of plain Rust.
+    pub calls: [Box<dyn FnMut()>; 2],
 }
 
 /// A case is made when its turn comes, so that only one case's slices are there at a time.
@@ -132,7 +132,7 @@ fn search(name: String, left: Vec<u8>, right: Vec<u8>) -> Case {
     let plain = move || {
         black_box(plain::search(&left, &right, &mut keep, &mut back, &mut line, &mut run)).ok();
     };
-    Case { name, compare: Box::new(compare), library: Box::new(library), plain: Box::new(plain) }
+    Case { name, compare: Box::new(compare), calls: [Box::new(library), Box::new(plain)] }
 }
 
 /// A slice long enough for the table of two texts.
@@ -159,7 +159,7 @@ fn widest(name: String, left: Vec<u8>, right: Vec<u8>) -> Case {
     let plain = move || {
         black_box(plain::widest(&left, &right, &mut [0; 512], &mut table)).ok();
     };
-    Case { name, compare: Box::new(compare), library: Box::new(library), plain: Box::new(plain) }
+    Case { name, compare: Box::new(compare), calls: [Box::new(library), Box::new(plain)] }
 }
 
 fn check(name: String, left: Vec<u8>, right: Vec<u8>) -> Case {
@@ -180,7 +180,7 @@ fn check(name: String, left: Vec<u8>, right: Vec<u8>) -> Case {
     let plain = move || {
         black_box(plain::check(&left, &right, &mut [0; 512], &table)).ok();
     };
-    Case { name, compare: Box::new(compare), library: Box::new(library), plain: Box::new(plain) }
+    Case { name, compare: Box::new(compare), calls: [Box::new(library), Box::new(plain)] }
 }
 
 fn safe_states(name: String, text: Vec<u8>, _: Vec<u8>) -> Case {
@@ -200,7 +200,7 @@ fn safe_states(name: String, text: Vec<u8>, _: Vec<u8>) -> Case {
     let plain = move || {
         black_box(plain::safe_states(&text, &mut [0; 512])).ok();
     };
-    Case { name, compare: Box::new(compare), library: Box::new(library), plain: Box::new(plain) }
+    Case { name, compare: Box::new(compare), calls: [Box::new(library), Box::new(plain)] }
 }
 
 fn read(name: String, text: Vec<u8>) -> Case {
@@ -220,5 +220,5 @@ fn read(name: String, text: Vec<u8>) -> Case {
             read.write(&mut record);
         }
     };
-    Case { name, compare: Box::new(compare), library: Box::new(library), plain: Box::new(plain) }
+    Case { name, compare: Box::new(compare), calls: [Box::new(library), Box::new(plain)] }
 }

@@ -1,4 +1,4 @@
-//! Best and median of several rounds, the two programs turn about.
+//! Best and median of several rounds, the programs turn about.
 //!
 //! Measured is the time of this thread on the processor: on a quiet machine it is the time that
 //! passes, and on a busy one it leaves out the time in which other programs had the processor.
@@ -14,20 +14,29 @@ pub struct Times {
 /// A round lasts at least this long, by repeating short calls.
 const ROUND: f64 = 2e6;
 
-pub fn time(library: &mut dyn FnMut(), plain: &mut dyn FnMut(), rounds: usize) -> (Times, Times) {
-    let repeats = (repeats(library), repeats(plain));
-    let (mut of_library, mut of_plain) = (Vec::new(), Vec::new());
+/// Calls that together take longer than this over all rounds get fewer rounds, but at least three.
+const ALL_ROUNDS: f64 = 3e9;
+const LEAST_ROUNDS: usize = 3;
+
+/// Times of each call, in the order in which they are given.
+pub fn time(calls: &mut [Box<dyn FnMut()>], rounds: usize) -> Vec<Times> {
+    let repeats: Vec<(usize, f64)> = calls.iter_mut().map(repeats).collect();
+    let turn: f64 = repeats.iter().map(|(repeats, once)| *repeats as f64 * once).sum();
+    let rounds = rounds.min(LEAST_ROUNDS.max((ALL_ROUNDS / turn) as usize));
+    let mut times = vec![Vec::new(); calls.len()];
     for _ in 0..rounds {
-        of_library.push(round(library, repeats.0));
-        of_plain.push(round(plain, repeats.1));
+        for ((call, (repeats, _)), times) in calls.iter_mut().zip(&repeats).zip(&mut times) {
+            times.push(round(call, *repeats));
+        }
     }
-    (summary(of_library), summary(of_plain))
+    times.into_iter().map(summary).collect()
 }
 
-/// How many calls fill a round.
-fn repeats(call: &mut dyn FnMut()) -> usize {
-    let once = round(call, 1).min(round(call, 1));
-    (ROUND / once).ceil() as usize
+/// How many calls fill a round, and how long one takes.
+fn repeats(call: &mut Box<dyn FnMut()>) -> (usize, f64) {
+    let once = round(call, 1);
+    let once = if once < ROUND { once.min(round(call, 1)) } else { once };
+    ((ROUND / once).ceil() as usize, once)
 }
 
 #[repr(C)]
@@ -52,7 +61,7 @@ fn now() -> f64 {
     time.seconds as f64 * 1e9 + time.nanoseconds as f64
 }
 
-fn round(call: &mut dyn FnMut(), repeats: usize) -> f64 {
+fn round(call: &mut Box<dyn FnMut()>, repeats: usize) -> f64 {
     let start = now();
     for _ in 0..repeats {
         call();

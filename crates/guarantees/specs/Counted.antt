@@ -17,7 +17,7 @@ use Rattle.systems.specs.Theorems.{safe-states-largest, implementation-iff, sta
 use Rattle.bitmaps.specs.Bits.{bit-at}
 use Rattle.bitmaps.specs.Packed.{bytes-for, packed}
 use Rattle.systems.specs.Sieve.{length-table}
-use Rattle.tables_fill.specs.FillLaws.{table-at}
+use Rattle.tables_rows.specs.TableLaws.{table-at}
 use Rattle.clocks.specs.States.{state-count, start-state}
 use Rattle.clocks.specs.Safe.{safe-states}
 use Rattle.clocks.specs.Encoded.{safe-states-same}

@@ -253,8 +253,8 @@ pub ones-table : (n : ℕ) (p : ℕ → Bool) → ones (table n p) ≤ n
 unfolding table
 ones-table n p = omega (arith, ones-sieve p 0 (replicate n true), ones-replicate n)
 
--- marking an entry: there is room while one is not marked, and the count rises by one
-ones-le : (X : List Bool) → ones X ≤ length X
+-- no more entries are set than there are; so there is room while one is not marked, and marking it raises the count
+pub ones-le : (X : List Bool) → ones X ≤ length X
 unfolding ones
 ones-le [] = omega arith
 ones-le (true ∷ X) = omega (arith, ones-le X)

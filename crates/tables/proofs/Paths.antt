@@ -13,12 +13,9 @@ use Rattle.systems.specs.Tests.{ones}
 use Rattle.systems.specs.Definitions.{Signature}
 use Rattle.systems.specs.Finite.{Finite-system, safe, safe-states, widest, cell}
 use Rattle.bitmaps.specs.Packed.{bytes-for, packed}
-use Rattle.bitmaps.specs.PackedLaws.{packed-self}
-use Rattle.systems.specs.Sieve.{length-table}
 use Rattle.tables_header.specs.Header.{header-bytes, table-bytes, fits}
 use Rattle.tables_header.specs.Laws.{fits-length}
 use Rattle.move_tables.specs.declared.Sides.{Sides}
-use Rattle.tables_rows.specs.Given.{Systems}
 use Rattle.tables_rows.specs.Raster.{set-at, denoted}
 use Rattle.tables_check.specs.declared.Found.{Found}
 use Rattle.tables_check.specs.declared.Found.the-variants.{Passed, NotAllowedAt, BrokenAt}
@@ -31,8 +28,7 @@ use Rattle.tables_whole.specs.Exact.{raster-answered}
 use Rattle.tables_whole.specs.Parts.{rest-of, raster-room}
 use Rattle.move_tables.specs.Held.{Held}
 use Rattle.tables_prepare.specs.Prepared.{Prepared}
-use Rattle.tables_prepare.specs.Paths.{safe-packed}
-use Rattle.tables_prepare.specs.Callers.{safe-left, prepared-moves}
+use Rattle.tables_prepare.specs.Callers.{safe-left, prepared-systems}
 use Rattle.tables.specs.declared.CheckAnswer.{CheckAnswer}
 use Rattle.tables.specs.declared.CheckAnswer.the-variants as check
 use Rattle.tables.specs.declared.WidestAnswer.{WidestAnswer}
@@ -112,20 +108,6 @@ module _ {A : Signature} {L R : Finite-system A} {sides : Sides} {inputs : List 
     is-safe : (b : Bool) → start ≡ b → safe L (sides .«left_start») ≡ b
     is-safe b s = ap (safe L) (sym (D .left-start)) ∙ sym (safe-left D lm′ keep keep′ start P .answer) ∙ s
 
-    systems : bytes-for (sides .«left_states») ≤ length keep
-        → Systems _ L R keep′ rh lm′ rm sides
-    systems long = record {
-      moves = prepared-moves D lm′ keep keep′ start P;
-      left-start = D .left-start;
-      right-start = D .right-start;
-      safe-bits = packed-self (safe-packed L (sides .«left_states») keep keep′ (D .left-size) long is-kept);
-      true-bits = record {
-        long = length-table (sides .«right_states») (R .holds);
-        room = D .right-bits .is .room;
-        is = D .right-invariants;
-      };
-    }
-
 -- the raster behind the header of a table that fits
 module _ (w n a : ℕ) (table : List ℕ) (e : a ≡ header-bytes w n) where
   pub raster-rest : take (length table - a) (drop a table) ≡ drop (header-bytes w n) table
@@ -192,7 +174,7 @@ module _ (sides : Sides) (inputs : List Bool) (lm rm lh rh keep table : List ℕ
           let answered : a ≡ cond (not (set-at w raster ls rs)) (check.Refused (start-pair-not-set ls rs))
           (scanned w count found) =
           o ∙ ap (check-of w ls rs) (e ∙ ap (raster-answer keep′ rh lm′ rm sides) q
-          ∙ raster-answered L R (systems D P (rw z at long)) raster
+          ∙ raster-answered L R (prepared-systems D lm′ keep keep′ start P (rw z at long)) raster
           ∙ ap (λ (x : Bool). cond x (answer-of found count) told.StartNotSet) same)
           ∙ checked-of w ls rs (set-at w raster ls rs) found count in
           rw (answered, is-kept D P)
@@ -241,6 +223,6 @@ module _ (sides : Sides) (inputs : List Bool) (lm rm lh rh keep table : List ℕ
           → Widens sides inputs lm rm lh rh keep table (widened (made.Made count b) keep′ table′)
       unfolding widest-by
       widest-made table′ count b s M A L R D =
-          let m = M A L R (systems D P (rw y at long)) in
+          let m = M A L R (prepared-systems D lm′ keep keep′ start P (rw y at long)) in
           rw (m .table-is, m .count-is, m .start-is, is-kept D P)
           (rw (widest-long, table-long, is-safe D P true (not-false start s)) refl ∙ sym (widest-is D keep table))

@@ -3,7 +3,6 @@ use mathlib.Core.Path.{_≡_, refl, sym, ap, _∙_}
 use mathlib.Core.Bool.{Bool, true, false}
 use mathlib.Core.List.{List}
 use Prim.Native.Nat.{ℕ, zero, suc, _+_, _-_, _/_, _%_, _≤_, _<_}
-use native.Mathlib.Nat.{zero-div}
 use native.Mathlib.Numerals.{add-one}
 use native.Mathlib.Omega.{arith}
 use lib.Dec.{eqb, ltb}
@@ -13,6 +12,7 @@ use Rattle.steps.specs.declared.Step.{Step}
 use Rattle.bitmaps.specs.Bits.{bit-at}
 use Rattle.systems.specs.Tests.{least}
 use Rattle.tables_rows.specs.Raster.{set-at}
+use Rattle.tables_runs.specs.RunsLaws.{zero-byte}
 use Rattle.tables_check.specs.Fault.{step, step-fault, picked, row-from, table-from}
 use Rattle.tables_check.specs.Scan.{first-bad, fault-at, Blank}
 use Rattle.tables_check.specs.declared.Fault.{Fault}
@@ -79,6 +79,13 @@ module _ (f : ℕ → ℕ → Fault) (w : ℕ) where
   unfolding table-from
   table-step n s h = let m : n - s ≡ suc (n - (s + 1)) = omega arith in let z : w - 0 ≡ w = omega arith in rw (m, z)
 
+  -- a row of which no pair fails
+  pub row-passed : (n s : ℕ) → s < n → ((t : ℕ) → t < w → f s t ≡ Fine)
+      → table-from f w (n - s) s ≡ table-from f w (n - (s + 1)) (s + 1)
+  row-passed n s h fine =
+      let rest = table-from f w (n - (s + 1)) (s + 1) in
+      table-step n s h ∙ row-skip w s 0 rest (λ i a b c. fine i c) ∙ row-done s (0 + w) rest (omega arith)
+
   pub table-end : (n s : ℕ) → n ≤ s → table-from f w (n - s) s ≡ Passed
   unfolding table-from
   table-end n s h = let m : n - s ≡ 0 = omega arith in rw m
@@ -88,12 +95,8 @@ blank-not row t = record { unset = λ e i a b. let z : _≡_ {A = ℕ} 0 1 = cc 
 
 -- a byte that is 0 has no bit
 pub blank-byte : (row : List ℕ) (t : ℕ) → t % 8 ≡ 0 → Blank (eqb (getD row (t / 8) 0) 0) row t
-unfolding bit-at
 blank-byte row t h = record {
-  unset = λ e i a b.
-      let q : i / 8 ≡ t / 8 = omega arith in
-      let z = eqb-true (getD row (t / 8) 0) 0 e in
-      rw (q, z, zero-div);
+  unset = λ e i a b. zero-byte row (t / 8) (eqb-true (getD row (t / 8) 0) 0 e) i (omega arith);
 }
 
 -- the judgement of a pair, test by test

@@ -21,12 +21,13 @@ use Rattle.steps.specs.declared.Step.{Step}
 use Rattle.bitmaps.specs.BitLaws.{less}
 use Rattle.bitmaps.specs.PackedLaws.{packed-bit}
 use Rattle.move_tables.specs.Moves.{decode}
-use Rattle.tables_fill.specs.FillLaws.{table-at}
+use Rattle.tables_rows.specs.TableLaws.{table-at}
 use Rattle.move_tables.specs.declared.Sides.{Sides}
 use Rattle.tables_rows.specs.Given.{Systems}
 use Rattle.tables_rows.specs.Raster.{set-at}
 use Rattle.tables_check.specs.Fault.{step, step-fault, row-from, table-from, picked}
-use Rattle.tables_check.specs.Scan.{ok-of, fails-at, first-bad, fault-at}
+use Rattle.tables_cut.specs.Rule.{ok-of}
+use Rattle.tables_check.specs.Scan.{fails-at, first-bad, fault-at}
 use Rattle.tables_check.specs.Judged.{breaks, least-broken, pair-fault, pairs-judged, No-fault, Lowest-fault}
 use Rattle.tables_check.specs.declared.Fault.{Fault}
 use Rattle.tables_check.specs.declared.Fault.the-variants.{Fine, NotAllowed, Broken}

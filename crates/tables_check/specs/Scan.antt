@@ -3,18 +3,14 @@ use mathlib.Core.Path.{_≡_}
 use mathlib.Core.Bool.{Bool, true, false, not, cond}
 use mathlib.Core.List.{List}
 use Prim.Native.Nat.{ℕ, _+_, _*_, _≤_, _<_}
-use lib.ListN.{getD}
-use Rattle.systems.specs.Tests.{stays, lands, least}
+use lib.ListN.{length, getD}
+use Rattle.systems.specs.Tests.{least}
 use Rattle.bitmaps.specs.Bits.{bit-at}
-use Rattle.move_tables.specs.Moves.{decode}
 use Rattle.tables_rows.specs.Raster.{set-at}
+use Rattle.tables_cut.specs.Rule.{ok-of, fine}
 use Rattle.tables_check.specs.declared.Fault.{Fault}
 use Rattle.tables_check.specs.declared.Fault.the-variants.{Fine, NotAllowed}
 use Rattle.tables_check.specs.Fault.{step-fault}
-
--- the left's successor u and the right's v by one step: u's move is matched
-unfoldable pub ok-of : ℕ → List ℕ → ℕ → ℕ → Bool
-ok-of w k u v = stays (λ x. lands (set-at w k x) (decode v)) (decode u)
 
 module _ (lm rm : List ℕ) (w steps : ℕ) (k : List ℕ) where
   -- step c breaks a rule at the pair (s, t)
@@ -34,3 +30,14 @@ fault-at lm rm keep holds w steps k s t =
 -- no column from t to t + 7 is set in the row, if r says so
 pub record Blank (r : Bool) (row : List ℕ) (t : ℕ) : Type 0 where
   pub unset : r ≡ true → (i : ℕ) → t ≤ i → i < t + 8 → bit-at row i ≡ false
+
+-- row′ is what is left of the row when it is cut by the first m steps of s: a bit that is left was set, and none of these
+-- steps breaks a rule there
+pub record Sifted (lm rm : List ℕ) (w steps : ℕ) (k : List ℕ) (s m : ℕ) (row row′ : List ℕ) : Type 0 where
+  pub sized : length row′ ≡ length row
+  pub left : (t : ℕ) → t < w → bit-at row′ t ≡ true
+      → (bit-at row t ≡ true) × ((c : ℕ) → c < m → fine lm rm w steps k s c t ≡ true)
+
+-- no pair of row s fails, if r says so
+pub record Row-passes (r : Bool) (f : ℕ → ℕ → Fault) (w s : ℕ) : Type 0 where
+  pub fine-at : r ≡ true → (t : ℕ) → t < w → f s t ≡ Fine

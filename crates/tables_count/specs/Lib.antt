@@ -1,2 +1,3 @@
 pub mod Ones
 pub mod Pairs
+pub mod PassingLaws

@@ -12,26 +12,11 @@ use Rattle.systems.specs.Tests.{at, ones, sieve, table}
 use Rattle.bitmaps.specs.Bits.{num}
 use Rattle.bitmaps.specs.PackedLaws.{packed-bit}
 use Rattle.systems.specs.Sieve.{length-table}
-use Rattle.tables_fill.specs.FillLaws.{table-at}
+use Rattle.tables_rows.specs.TableLaws.{table-at}
 use Rattle.tables_rows.specs.Raster.{set-at, denoted, Raster}
 use Rattle.tables_rows.specs.RasterLaws.{row-at}
 use Rattle.tables_count.specs.Pairs.{passing, pairs-set}
-
-passing-same : (p q : ℕ → Bool) (n : ℕ) → ((i : ℕ) → i < n → p i ≡ q i) → passing p n ≡ passing q n
-unfolding passing
-passing-same p q zero e = refl
-passing-same p q (suc n) e = let f = passing-same p q n (λ i h. e i (omega arith)) in rw (f, e n (omega arith))
-
--- the first number, and the first m of them, counted apart
-passing-front : (p : ℕ → Bool) (n : ℕ) → passing p (suc n) ≡ num (p 0) + passing (λ i. p (suc i)) n
-unfolding passing
-passing-front p zero = omega arith
-passing-front p (suc n) = let e = passing-front p n in omega arith
-
-passing-split : (p : ℕ → Bool) (m n : ℕ) → passing p (m + n) ≡ passing p m + passing (λ i. p (m + i)) n
-unfolding passing
-passing-split p m zero = let e : m + 0 ≡ m = omega arith in rw e (omega arith)
-passing-split p m (suc n) = let e : m + suc n ≡ suc (m + n) = omega arith in rw e (omega (arith, passing-split p m n))
+use Rattle.tables_count.specs.PassingLaws.{passing-same, passing-front, passing-split}
 
 ones-cons : (b : Bool) (X : List Bool) → ones (b ∷ X) ≡ num b + ones X
 unfolding ones

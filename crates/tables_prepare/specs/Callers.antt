@@ -2,14 +2,20 @@
 use mathlib.Core.Path.{_≡_}
 use mathlib.Core.Bool.{Bool}
 use mathlib.Core.List.{List}
-use Prim.Native.Nat.{ℕ, _<_}
+use Prim.Native.Nat.{ℕ, _≤_, _<_}
 use native.Mathlib.Omega.{arith}
+use lib.ListN.{length}
 use Rattle.systems.specs.Definitions.{Signature}
 use Rattle.systems.specs.Finite.{Finite-system}
+use Rattle.systems.specs.Sieve.{length-table}
+use Rattle.bitmaps.specs.Packed.{bytes-for}
+use Rattle.bitmaps.specs.PackedLaws.{packed-self}
 use Rattle.move_tables.specs.declared.Sides.{Sides}
 use Rattle.move_tables.specs.Given.{Given}
 use Rattle.move_tables.specs.Held.{Held}
+use Rattle.tables_rows.specs.Given.{Systems}
 use Rattle.tables_prepare.specs.Prepared.{Ready, Ready-two, Safe-left, Prepared}
+use Rattle.tables_prepare.specs.Paths.{safe-packed}
 
 module _ {A : Signature} {L R : Finite-system A} {sides : Sides} {inputs : List Bool} {lm rm lh rh : List ℕ}
     (H : Held L R sides inputs lm rm lh rh) where
@@ -37,4 +43,19 @@ module _ {A : Signature} {L R : Finite-system A} {sides : Sides} {inputs : List 
     known = H .left-encoded .known;
     left = safe-left lm′ keep keep′ start P .moves-left;
     right = H .right-encoded;
+  }
+
+  pub prepared-systems : (lm′ keep keep′ : List ℕ) (start : Bool) → Prepared sides inputs lh lm lm′ keep keep′ start
+      → bytes-for (sides .«left_states») ≤ length keep → Systems A L R keep′ rh lm′ rm sides
+  prepared-systems lm′ keep keep′ start P long = record {
+    moves = prepared-moves lm′ keep keep′ start P;
+    left-start = H .left-start;
+    right-start = H .right-start;
+    safe-bits = packed-self (safe-packed L (sides .«left_states») keep keep′ (H .left-size) long
+        (safe-left lm′ keep keep′ start P .kept));
+    true-bits = record {
+      long = length-table (sides .«right_states») (R .holds);
+      room = H .right-bits .is .room;
+      is = H .right-invariants;
+    };
   }

@@ -1,3 +1,4 @@
 pub mod Given
 pub mod Raster
 pub mod RasterLaws
+pub mod TableLaws

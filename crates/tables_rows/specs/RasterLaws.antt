@@ -1,6 +1,6 @@
 -- Laws of rasters: their rows as parts, a row put back, a pair taken out.
 use mathlib.Core.Path.{_≡_, refl, sym, ap, _∙_}
-use mathlib.Core.Logic.{⊎-elim, _≢_}
+use mathlib.Core.Logic.{_⊎_, inl, inr, ⊎-elim, _≢_}
 use mathlib.Core.Bool.{Bool, true, false}
 use mathlib.Core.List.{List, _++_}
 use Prim.Native.Nat.{ℕ, _+_, _-_, _*_, _/_, _%_, _^_, _≤_, _<_}
@@ -153,58 +153,84 @@ module _ (a b : ℕ) (k y : List ℕ) (fits : a + b ≤ length k) (long : length
   put-length = length-append (take a k) (y ++ drop b (drop a k))
       ∙ omega (arith, front, long, length-append y (drop b (drop a k)), length-drop b (drop a k), length-drop a k)
 
+-- rows of b bytes with row s replaced by y
+abbrev pub row-put : ℕ → List ℕ → ℕ → List ℕ → List ℕ
+row-put b k s y = take (s * b) k ++ (y ++ drop b (drop (s * b) k))
+
+-- a row that was lent comes back, as long as it was
+module _ (w s b : ℕ) (k y : List ℕ) (e : b ≡ bytes-for w) where
+  pub row-back : take (s * b) k ++ (y ++ drop (s * b + b - s * b) (drop (s * b) k)) ≡ row-put (bytes-for w) k s y
+  row-back = let f : s * b + b - s * b ≡ b = omega arith in rw (f, e)
+
+  pub row-back-length : (n : ℕ) → n * bytes-for w ≤ length k → s < n
+      → length y ≡ length (take (s * b + b - s * b) (drop (s * b) k)) → length y ≡ bytes-for w
+  row-back-length n room h long = long ∙ ap length (part-between w s b k e) ∙ part-length n (bytes-for w) k s room h
+
+module _ (n b : ℕ) (k : List ℕ) (s : ℕ) (y : List ℕ) (room : n * b ≤ length k) (h : s < n) (long : length y ≡ b) where
+  fits : s * b + b ≤ length k
+  fits = omega (arith, row-end n b s h)
+
+  pub row-put-length : length (row-put b k s y) ≡ length k
+  unfolding put
+  row-put-length = put-length (s * b) b k y fits long
+
+  pub row-put-outside : (i : ℕ) → (i < s * b) ⊎ (s * b + b ≤ i) → getD (row-put b k s y) i 0 ≡ getD k i 0
+  unfolding put
+  row-put-outside i = ⊎-elim (put-before (s * b) b k y fits long i) (put-after (s * b) b k y fits long i)
+
+  pub row-put-here : part b s (row-put b k s y) ≡ y
+  unfolding put
+  row-put-here = ext-getD 0 (part b s (row-put b k s y)) y (size ∙ sym long)
+      (λ i l. let m : i < b = omega (arith, size) in part-at b (row-put b k s y) s i m ∙ put-in (s * b) b k y fits long i m)
+    where
+      size : length (part b s (row-put b k s y)) ≡ b
+      size = part-length n b (row-put b k s y) s (omega (arith, row-put-length)) h
+
+  pub row-put-else : (i : ℕ) → i < n → i ≢ s → part b i (row-put b k s y) ≡ part b i k
+  row-put-else i l e = ext-getD 0 (part b i (row-put b k s y)) (part b i k) (size ∙ sym (part-length n b k i room l))
+      (λ j m. let q : j < b = omega (arith, size) in
+      part-at b (row-put b k s y) i j q ∙ row-put-outside (i * b + j) (outside j q) ∙ sym (part-at b k i j q))
+    where
+      size : length (part b i (row-put b k s y)) ≡ b
+      size = part-length n b (row-put b k s y) i (omega (arith, row-put-length)) l
+
+      above : s ≤ i → s + 1 ≤ i
+      above a = ⊎-elim (λ z. absurd (e (omega arith))) (λ z. z) (less i (s + 1))
+
+      outside : (j : ℕ) → j < b → (i * b + j < s * b) ⊎ (s * b + b ≤ i * b + j)
+      outside j m = ⊎-elim (λ a. inl (digits-lt a m))
+          (λ a. inr (omega (arith, mul-le-mul-right b (above a), add-mul s 1 b))) (less i s)
+
+  -- what is so of each row before s, and of the new row
+  pub row-put-more : (P : ℕ → List ℕ → Type 0) → ((i : ℕ) → i < s → P i (part b i k)) → P s y → (i : ℕ) → i < s + 1
+      → P i (part b i (row-put b k s y))
+  row-put-more P old new i l = elim (ℕ-discrete i s) [
+    | yes e ↦ rw (e, row-put-here) new
+    | no e ↦ rw (row-put-else i (omega (arith, below e)) e) (old i (below e))
+  ]
+    where
+      below : i ≢ s → i < s
+      below e = ⊎-elim (λ a. a) (λ a. absurd (e (omega arith))) (less i s)
+
 -- a raster with row s replaced
 module _ {n w : ℕ} {X : List Bool} {d k : List ℕ} (R : Raster n w X d k) (s : ℕ) (h : s < n) (Z : List Bool)
     (y : List ℕ) (lz : length Z ≡ n * w) (here : Packed w (row w Z s) y y) (ly : length y ≡ bytes-for w)
     (other : (i : ℕ) → i < n → i ≢ s → row w Z i ≡ row w X i) where
-  fits : s * bytes-for w + bytes-for w ≤ length k
-  fits = omega (arith, R .sized, R .room, row-end n (bytes-for w) s h)
+  room : n * bytes-for w ≤ length k
+  room = omega (arith, R .sized, R .room)
 
-  pub raster-put : Raster n w Z d (take (s * bytes-for w) k ++ (y ++ drop (bytes-for w) (drop (s * bytes-for w) k)))
-  unfolding put
+  pub raster-put : Raster n w Z d (row-put (bytes-for w) k s y)
   raster-put = record {
     long = lz;
     room = R .room;
-    sized = put-length (s * bytes-for w) (bytes-for w) k y fits ly ∙ R .sized;
-    rows = λ i l. elim (ℕ-discrete i s) [ yes e ↦ same i e | no e ↦ differ i l e ];
-    past = λ i l. put-after (s * bytes-for w) (bytes-for w) k y fits ly i (omega (arith, row-end n (bytes-for w) s h))
-        ∙ R .past i l;
+    sized = row-put-length n (bytes-for w) k s y room h ly ∙ R .sized;
+    rows = λ i l. elim (ℕ-discrete i s) [
+      | yes e ↦ rw (e, row-put-here n (bytes-for w) k s y room h ly) here
+      | no e ↦ rw (row-put-else n (bytes-for w) k s y room h ly i l e, other i l e) (R .rows i l)
+    ];
+    past = λ i l. row-put-outside n (bytes-for w) k s y room h ly i
+        (inr (omega (arith, row-end n (bytes-for w) s h))) ∙ R .past i l;
   }
-    where
-      new : List ℕ
-      new = take (s * bytes-for w) k ++ (y ++ drop (bytes-for w) (drop (s * bytes-for w) k))
-
-      room : n * bytes-for w ≤ length new
-      room = omega (arith, put-length (s * bytes-for w) (bytes-for w) k y fits ly, R .sized, R .room)
-
-      part-here : part (bytes-for w) s new ≡ y
-      part-here = ext-getD 0 (part (bytes-for w) s new) y (part-length n (bytes-for w) new s room h ∙ sym ly)
-          (λ i l. let m : i < bytes-for w = omega (arith, part-length n (bytes-for w) new s room h) in
-          part-at (bytes-for w) new s i m ∙ put-in (s * bytes-for w) (bytes-for w) k y fits ly i m)
-
-      same : (i : ℕ) → i ≡ s → Packed w (row w Z i) (part (bytes-for w) i new) (part (bytes-for w) i new)
-      same i e = rw (e, part-here) here
-
-      old : n * bytes-for w ≤ length k
-      old = omega (arith, R .sized, R .room)
-
-      outside : (i j : ℕ) → i < n → i ≢ s → j < bytes-for w → getD new (i * bytes-for w + j) 0 ≡ getD k
-          (i * bytes-for w + j) 0
-      outside i j l e m = ⊎-elim (λ a. put-before (s * bytes-for w) (bytes-for w) k y fits ly (i * bytes-for w + j)
-          (digits-lt a m)) (λ a. put-after (s * bytes-for w) (bytes-for w) k y fits ly (i * bytes-for w + j)
-          (omega (arith, mul-le-mul-right (bytes-for w) (above a), add-mul s 1 (bytes-for w)))) (less i s)
-        where
-          above : s ≤ i → s + 1 ≤ i
-          above a = ⊎-elim (λ b. absurd (e (omega arith))) (λ b. b) (less i (s + 1))
-
-      part-else : (i : ℕ) → i < n → i ≢ s → part (bytes-for w) i new ≡ part (bytes-for w) i k
-      part-else i l e = ext-getD 0 (part (bytes-for w) i new) (part (bytes-for w) i k)
-          (part-length n (bytes-for w) new i room l ∙ sym (part-length n (bytes-for w) k i old l))
-          (λ j m. let q : j < bytes-for w = omega (arith, part-length n (bytes-for w) new i room l) in
-          part-at (bytes-for w) new i j q ∙ outside i j l e q ∙ sym (part-at (bytes-for w) k i j q))
-
-      differ : (i : ℕ) → i < n → i ≢ s → Packed w (row w Z i) (part (bytes-for w) i new) (part (bytes-for w) i new)
-      differ i l e = rw (part-else i l e, other i l e) (R .rows i l)
 
 -- entry i of row s set, in a list of rows of b entries: that row
 row-set : {A : Type 0} (b : ℕ) (k : List A) (s i : ℕ) (v : A) → i < b

@@ -1,2 +1,3 @@
-pub mod SweepLaws
+pub mod RoomLaws
+pub mod StartLaws
 pub mod WholeLaws

@@ -1,76 +1,62 @@
--- Laws of the whole: filled, swept, the widest table.
+-- Laws of the whole: from the first cut to the widest table.
 use mathlib.Core.Path.{_≡_, sym, subst, ap, _∙_}
-use mathlib.Core.Bool.{Bool, _&&_}
+use mathlib.Core.Bool.{Bool}
 use mathlib.Core.List.{List}
-use Prim.Native.Nat.{ℕ, _+_, _*_, _/_, _%_, _<_}
-use native.Mathlib.Nat.{mod-lt, div-lt-iff-lt-mul}
+use Prim.Native.Nat.{ℕ, _+_, _*_, _≤_, _<_}
 use native.Mathlib.Omega.{arith}
-use lib.Dec.{ltb}
-use borrow.Author.Tests.{lt-ltb}
-use Rattle.systems.specs.Tests.{at, table}
+use lib.ListN.{length}
+use Rattle.systems.specs.Tests.{at, stage}
 use Rattle.systems.specs.Definitions.{Signature}
-use Rattle.systems.specs.Finite.{Finite-system, safe-states, safe, pairs, widest}
-use Rattle.bitmaps.specs.Bits.{bit-at}
-use Rattle.bitmaps.specs.Packed.{Packed, Bitmap}
-use Rattle.bitmaps.specs.PackedLaws.{packed-bit}
-use Rattle.tables_rows.specs.Raster.{set-at, Raster}
-use Rattle.tables_rows.specs.RasterLaws.{raster-is, raster-bit}
-use Rattle.tables_fill.specs.Fill.{fills, filled, Filling}
-use Rattle.tables_fill.specs.FillLaws.{table-at, table-same}
+use Rattle.systems.specs.Finite.{Finite-system, pairs, widest}
+use Rattle.systems.specs.Refinement.{pair-rule}
+use Rattle.bitmaps.specs.Packed.{bytes-for}
 use Rattle.move_tables.specs.declared.Sides.{Sides}
-use Rattle.move_tables.specs.Given.{Given}
-use Rattle.tables_count.specs.Pairs.{pairs-set}
+use Rattle.tables_rows.specs.Raster.{Raster, set-at, denoted}
+use Rattle.tables_rows.specs.RasterLaws.{raster-is, raster-bit}
+use Rattle.tables_rows.specs.Given.{Slices, Systems}
 use Rattle.tables_count.specs.Ones.{pairs-raster}
-use Rattle.tables_widest.specs.Sweep.{Counted, Settled}
-use Rattle.tables_widest.proofs.SweepLaws.{raster-self}
+use Rattle.tables_first.specs.First.{First}
+use Rattle.tables_settle.specs.State.{Settled}
 use Rattle.tables_widest.specs.Whole.{Widest-answers}
+use Rattle.tables_widest.proofs.StartLaws.{pairs-long, start-between}
 
--- filled with both bitmaps, the raster holds the pairs
-module _ {A : Signature} {L R : Finite-system A} {lm rm : List ℕ} {n w steps : ℕ} (G : Given A L R lm rm n w steps)
-    (wide : 0 < w) {keep : List ℕ} (S : Packed n (safe-states L) keep keep) where
-  sized : L .size * R .size ≡ n * w
-  sized = ap (λ (x : ℕ). x * R .size) (G .left-size) ∙ ap (λ (x : ℕ). n * x) (G .right-size)
+-- what is left of all pairs is the widest table
+left-widest : {A : Signature} {L R : Finite-system A} {keep holds lm rm : List ℕ} {sides : Sides}
+    → Systems A L R keep holds lm rm sides
+    → stage (pair-rule L R .keep) (pairs L R) (sides .«left_states» * sides .«right_states») ≡ widest L R
+unfolding widest
+left-widest {L = L} {R = R} {sides = sides} G =
+    ap (λ (x : ℕ). stage (pair-rule L R .keep) (pairs L R) (x * sides .«right_states»)) (sym (G .moves .left-size))
+    ∙ ap (λ (x : ℕ). stage (pair-rule L R .keep) (pairs L R) (L .size * x)) (sym (G .moves .right-size))
 
-  pub pairs-filled : fills n w (bit-at keep) (at (table w (R .holds))) n ≡ pairs L R
-  unfolding pairs filled
-  pairs-filled =
-      table-same (n * w) (filled w (bit-at keep) (at (table w (R .holds))) n) (λ p. safe L (p / w) && R .holds (p % w))
-      agree
-      ∙ ap (λ (x : ℕ). table (n * w) (λ p. safe L (p / x) && R .holds (p % x))) (sym (G .right-size))
-      ∙ ap (λ (x : ℕ). table x (λ p. safe L (p / R .size) && R .holds (p % R .size))) (sym sized)
-    where
-      agree : (p : ℕ) → p < n * w → (ltb (p / w) n && (bit-at keep (p / w) && at (table w (R .holds)) (p % w))) ≡
-          (safe L (p / w) && R .holds (p % w))
-      agree p h = let m : p / w < n = div-lt-iff-lt-mul wide .1 h in
-          rw (lt-ltb (p / w) n m, packed-bit S (p / w) m, table-at w (R .holds) (p % w) (mod-lt p wide))
-
-pub filled-counted : {n w : ℕ} (keep : List ℕ) {holds d k : List ℕ} {count : ℕ} → 0 < w → Bitmap w holds
-    → Filling n w keep holds n d k → count ≡ pairs-set (set-at w k) w n → Counted n w k count
-filled-counted keep wide H F e =
-    let R = F (H .entries) (H .is) in
-    record { entries = raster-self R .entries; is = raster-self R .is; count-is = sym (e ∙ pairs-raster wide R) }
-
-module _ (lm rm keep holds : List ℕ) (sides : Sides) where
+module _ {keep holds lm rm : List ℕ} {sides : Sides} (S : Slices keep holds lm rm sides) where
   abbrev n : ℕ
   n = sides .«left_states»
 
   abbrev w : ℕ
   w = sides .«right_states»
 
-  pub widest-answered : (k k₁ k′ : List ℕ) (r : ℕ) (start : Bool) → sides .«left_start» < n → sides .«right_start» < w
-      → Filling n w keep holds n k k₁ → Settled lm rm n w (sides .steps) k₁ k′ r
+  pub widest-answered : {d k k′ stamps : List ℕ} {count r : ℕ} {start : Bool} → n * bytes-for w ≤ length d
+      → First lm rm keep holds n w (sides .steps) d k stamps count → Settled lm rm n w (sides .steps) k k′ r
       → start ≡ set-at w k′ (sides .«left_start») (sides .«right_start»)
-      → Widest-answers keep holds lm rm sides k k′ r start
-  widest-answered k k₁ k′ r start hl hr F S e A L R G =
-      let wide : 0 < w = omega arith in
-      let Q : Raster n w (pairs L R) k k₁ =
-      subst (λ (X : List Bool). Raster n w X k k₁) (pairs-filled (G .moves) wide (G .safe-bits))
-      (F (table w (R .holds)) (G .true-bits)) in
-      let (W, c) = S A L R (G .moves) k Q in
+      → Widest-answers keep holds lm rm sides d k′ r start
+  widest-answered {d} {k} {k′} room F D e A L R G =
+      let wide : 0 < w = omega (arith, S .right-start) in
+      let same : denoted n w k′ ≡ widest L R =
+      D .left A L R (G .moves) (pairs L R) (pairs-long G) (λ j x. x)
+      (start-between G (S .left) (S .right) wide F) ∙ left-widest G in
+      let over : Raster n w (denoted n w k′) k k′ = D .raster (F .spare) in
+      let W : Raster n w (widest L R) d k′ = subst (λ (X : List Bool). Raster n w X d k′) same (record {
+        long = over .long;
+        room = room;
+        sized = over .sized ∙ F .sized;
+        rows = over .rows;
+        past = λ i h. over .past i h ∙ F .past i h;
+      }) in
       record {
         raster-is-widest = raster-is wide W;
-        count-is = c;
-        start-is = e ∙ raster-bit W (sides .«left_start») (sides .«right_start») hl hr ∙ cells;
+        count-is = D .counted ∙ pairs-raster wide W;
+        start-is = e ∙ raster-bit W (sides .«left_start») (sides .«right_start») (S .left-start) (S .right-start) ∙ cells;
       }
     where
       cells : at (widest L R) (sides .«left_start» * w + sides .«right_start») ≡ at (widest L R)

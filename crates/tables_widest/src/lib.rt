@@ -1,132 +1,19 @@
-// The widest table: a raster filled with all pairs, from which the pairs that break a rule are taken out until none
-// does.
+// The widest table: of all pairs those that break a rule are taken out, row by row, until none does.
+use limits::FEW_BYTES;
+use limits::FEW_STATES;
+use limits::KEEP_LIMIT;
+use limits::STATE_LIMIT;
+use limits::STEP_LIMIT;
 use move_tables::Sides;
+use tables_settle::Progress;
 ghost use mathlib.Core.Path.{_≡_};
-ghost use Prim.Native.Nat.{ℕ, _+_, _-_, _*_, _/_, _≤_, _<_};
-ghost use lib.ListN.{length, set};
+ghost use Prim.Native.Nat.{ℕ, _*_, _≤_, _<_};
+ghost use lib.ListN.{length, getD};
+ghost use Rattle.limits.specs.Limits.{state-limit, few-states};
 ghost use Rattle.bitmaps.specs.Packed.{bytes-for};
-ghost use Rattle.tables_rows.specs.Raster.{set-at};
 ghost use Rattle.tables_rows.specs.Given.{Slices};
-ghost use Rattle.tables_widest.specs.Sweep.{Sweepable, Sweeps, bit-in, Kept-before, Matched, Columns-matched, Row-matched, Counted, Settled};
+ghost use Rattle.tables_widest.specs.Room.{rows-limit, few-rows, Room};
 ghost use Rattle.tables_widest.specs.Whole.{Widest-answers};
-
-// The smaller of two numbers.
-fn least(a: usize, b: usize) -> usize
-    ensures { λ r. ⌜ (r ≤ a) × ((r ≤ b) × ((i : ℕ) → i < a → i < b → i < r)) ⌝ }
-{
-    if a < b {
-        return a;
-    }
-    b
-}
-
-// Takes the pair (s, t) out if it is set and breaks a rule, and says how many that were. `byte` is the byte of the pair
-// as it was before its later pairs were visited: bit t of it is still what the raster says.
-fn visit(
-    byte: u8,
-    raster: &mut [u8],
-    lm: &[u16],
-    rm: &[u16],
-    n: usize,
-    w: usize,
-    steps: usize,
-    s: usize,
-    t: usize,
-) -> usize
-    requires { ⌜ Sweepable n w steps (now lm) (now rm) (now raster) × ((s < n) × ((t < w)
-        × (set-at w (now raster) s t ≡ bit-in byte t))) ⌝ }
-    ensures { λ r. ⌜ Sweeps (now (lm .entry)) (now (rm .entry)) n w steps
-        (Matched (now (lm .entry)) (now (rm .entry)) w steps s t) (now (raster .entry)) (now (raster .exit)) r
-        × Kept-before w s t (now (raster .entry)) (now (raster .exit)) ⌝ }
-{
-    if (byte >> (7 - t % 8)) % 2 == 0 {
-        return 0;
-    }
-    if steps <= tables_check::first_bad(raster, lm, rm, n, w, steps, s, t) {
-        return 0;
-    }
-    tables_rows::clear(raster, n, w, s, t);
-    1
-}
-
-// The pairs of byte j of row s, from the last to the first; none where the byte is 0. The byte is read once, so that
-// which pair is next does not wait for the raster.
-fn sweep_byte(
-    raster: &mut [u8],
-    lm: &[u16],
-    rm: &[u16],
-    n: usize,
-    w: usize,
-    steps: usize,
-    s: usize,
-    j: usize,
-) -> usize
-    requires { ⌜ Sweepable n w steps (now lm) (now rm) (now raster) × ((s < n) × (j < bytes-for w)) ⌝ }
-    ensures { λ r. ⌜ Sweeps (now (lm .entry)) (now (rm .entry)) n w steps
-        (Columns-matched (now (lm .entry)) (now (rm .entry)) w steps s (8 * j) (8 * j + 8)) (now (raster .entry))
-        (now (raster .exit)) r ⌝ }
-{
-    let byte = raster[s * bitmaps::bytes_for(w) + j];
-    if byte == 0 {
-        return 0;
-    }
-    let low = 8 * j;
-    let mut t = least(w, low + 8);
-    let mut r: usize = 0;
-    while low < t {
-        t -= 1;
-        r += visit(byte, raster, lm, rm, n, w, steps, s, t);
-    }
-    r
-}
-
-// The pairs of row s, byte by byte, from the last to the first.
-fn sweep_row(
-    raster: &mut [u8],
-    lm: &[u16],
-    rm: &[u16],
-    n: usize,
-    w: usize,
-    steps: usize,
-    s: usize,
-) -> usize
-    requires { ⌜ Sweepable n w steps (now lm) (now rm) (now raster) × (s < n) ⌝ }
-    ensures { λ r. ⌜ Sweeps (now (lm .entry)) (now (rm .entry)) n w steps
-        (Row-matched (now (lm .entry)) (now (rm .entry)) w steps s 0) (now (raster .entry)) (now (raster .exit)) r ⌝ }
-{
-    let mut r: usize = 0;
-    let mut j = bitmaps::bytes_for(w);
-    while 0 < j {
-        j -= 1;
-        r += sweep_byte(raster, lm, rm, n, w, steps, s, j);
-    }
-    r
-}
-
-// Sweeps from the last row to the first until one takes nothing out; `count`
-// pairs are set before, and the number that is left is returned.
-pub fn settle(raster: &mut [u8], lm: &[u16], rm: &[u16], sides: Sides, count: usize) -> usize
-    requires { ⌜ Sweepable (sides .«left_states») (sides .«right_states») (sides .steps) (now lm) (now rm) (now raster)
-        × Counted (sides .«left_states») (sides .«right_states») (now raster) count ⌝ }
-    ensures { λ r. ⌜ Settled (now (lm .entry)) (now (rm .entry)) (sides .«left_states») (sides .«right_states»)
-        (sides .steps) (now (raster .entry)) (now (raster .exit)) r ⌝ }
-{
-    let n = sides.left_states;
-    let w = sides.right_states;
-    let mut left = count;
-    loop {
-        let before = left;
-        let mut s = n;
-        while 0 < s {
-            s -= 1;
-            left -= sweep_row(raster, lm, rm, n, w, sides.steps, s);
-        }
-        if left == before {
-            break;
-        }
-    }
-    left
-}
 
 // The number of pairs set, and whether the start pair is one of them.
 pub struct WidestTable {
@@ -134,8 +21,191 @@ pub struct WidestTable {
     pub start: bool,
 }
 
-// The widest table: the raster is filled with all pairs and swept; the
-// pairs left and whether the start pair is one are returned.
+// The time when the removal begins: no row has been looked at since, and no row was cut later.
+const BEGINNING: u32 = 1;
+
+// The widest table, made in slices that are long enough: the first cut of all rows, then the removal, in an order that
+// helps. `rows` has room for a row a step; runs and met also hold what the order is found with.
+fn widest_with(
+    raster: &mut [u8],
+    rows: &mut [u8],
+    seen: &mut [u32],
+    stamps: &mut [u32],
+    runs: &mut [u16],
+    classes: &mut [u16],
+    masks: &mut [u8],
+    order: &mut [u16],
+    first: &mut [u16],
+    met: &mut [u16],
+    keep: &[u8],
+    holds: &[u8],
+    lm: &[u16],
+    rm: &[u16],
+    sides: Sides,
+) -> WidestTable
+    requires { ⌜ Slices (now keep) (now holds) (now lm) (now rm) sides × Room sides (now raster) (now rows) (now seen)
+        (now stamps) (now runs) (now classes) (now masks) (now order) (now first) (now met) ⌝ }
+    ensures { λ r. ⌜ Widest-answers (now (keep .entry)) (now (holds .entry)) (now (lm .entry)) (now (rm .entry)) sides
+        (now (raster .entry)) (now (raster .exit)) (r .count) (r .start) ⌝ }
+{
+    let n = sides.left_states;
+    let w = sides.right_states;
+    tables_order::targets_first(order, first, runs, met, lm, n, sides.steps);
+    tables_cut::find_shape(runs, classes, masks, rm, w, sides.steps);
+    let all = tables_first::first_cut(raster, stamps, rows, keep, holds, lm, rm, runs, sides);
+    let progress = Progress {
+        time: BEGINNING,
+        count: all,
+    };
+    let count = tables_settle::settle(
+        raster,
+        seen,
+        stamps,
+        rows,
+        lm,
+        rm,
+        runs,
+        classes,
+        masks,
+        order,
+        first,
+        sides,
+        progress,
+    );
+    let start = tables_rows::is_set(raster, n, w, sides.left_start, sides.right_start);
+    WidestTable { count, start }
+}
+
+// A row for each step, for all texts and for those of few states.
+const ROWS_LIMIT: usize = STEP_LIMIT * KEEP_LIMIT;
+
+const FEW_ROWS: usize = STEP_LIMIT * FEW_BYTES;
+
+// The arrays stand behind functions because antt must not unfold arrays of their lengths.
+fn rows() -> [u8; ROWS_LIMIT]
+    ensures { λ r. ⌜ length r ≡ rows-limit ⌝ }
+{
+    [0; ROWS_LIMIT]
+}
+
+// No row has been looked at yet.
+fn times() -> [u32; STATE_LIMIT]
+    ensures { λ r. ⌜ (length r ≡ state-limit) × ((i : ℕ) → getD r i 0 ≡ 0) ⌝ }
+{
+    [0; STATE_LIMIT]
+}
+
+fn places() -> [u16; STATE_LIMIT]
+    ensures { λ r. ⌜ length r ≡ state-limit ⌝ }
+{
+    [0; STATE_LIMIT]
+}
+
+// The same for few states.
+fn few_rows() -> [u8; FEW_ROWS]
+    ensures { λ r. ⌜ length r ≡ few-rows ⌝ }
+{
+    [0; FEW_ROWS]
+}
+
+fn few_times() -> [u32; FEW_STATES]
+    ensures { λ r. ⌜ (length r ≡ few-states) × ((i : ℕ) → getD r i 0 ≡ 0) ⌝ }
+{
+    [0; FEW_STATES]
+}
+
+fn few_places() -> [u16; FEW_STATES]
+    ensures { λ r. ⌜ length r ≡ few-states ⌝ }
+{
+    [0; FEW_STATES]
+}
+
+// The widest table of any two texts.
+fn widest_of_many(
+    raster: &mut [u8],
+    keep: &[u8],
+    holds: &[u8],
+    lm: &[u16],
+    rm: &[u16],
+    sides: Sides,
+) -> WidestTable
+    requires { ⌜ Slices (now keep) (now holds) (now lm) (now rm) sides
+        × (sides .«left_states» * bytes-for (sides .«right_states») ≤ length (now raster)) ⌝ }
+    ensures { λ r. ⌜ Widest-answers (now (keep .entry)) (now (holds .entry)) (now (lm .entry)) (now (rm .entry)) sides
+        (now (raster .entry)) (now (raster .exit)) (r .count) (r .start) ⌝ }
+{
+    let mut rows = rows();
+    let mut seen = times();
+    let mut stamps = times();
+    let mut runs = tables_runs::runs_for_any_text();
+    let mut classes = tables_shifts::classes_for_any_text();
+    let mut masks = tables_shifts::masks_for_any_text();
+    let mut order = places();
+    let mut first = places();
+    let mut met = places();
+    widest_with(
+        raster,
+        &mut rows,
+        &mut seen,
+        &mut stamps,
+        &mut runs,
+        &mut classes,
+        &mut masks,
+        &mut order,
+        &mut first,
+        &mut met,
+        keep,
+        holds,
+        lm,
+        rm,
+        sides,
+    )
+}
+
+// The widest table of two texts of few states: the large arrays would take longer to make than their table.
+fn widest_of_few(
+    raster: &mut [u8],
+    keep: &[u8],
+    holds: &[u8],
+    lm: &[u16],
+    rm: &[u16],
+    sides: Sides,
+) -> WidestTable
+    requires { ⌜ Slices (now keep) (now holds) (now lm) (now rm) sides
+        × ((sides .«left_states» * bytes-for (sides .«right_states») ≤ length (now raster))
+        × ((sides .«left_states» ≤ few-states) × (sides .«right_states» ≤ few-states))) ⌝ }
+    ensures { λ r. ⌜ Widest-answers (now (keep .entry)) (now (holds .entry)) (now (lm .entry)) (now (rm .entry)) sides
+        (now (raster .entry)) (now (raster .exit)) (r .count) (r .start) ⌝ }
+{
+    let mut rows = few_rows();
+    let mut seen = few_times();
+    let mut stamps = few_times();
+    let mut runs = tables_runs::runs_for_few_states();
+    let mut classes = tables_shifts::classes_for_any_text();
+    let mut masks = tables_shifts::masks_for_few_states();
+    let mut order = few_places();
+    let mut first = few_places();
+    let mut met = few_places();
+    widest_with(
+        raster,
+        &mut rows,
+        &mut seen,
+        &mut stamps,
+        &mut runs,
+        &mut classes,
+        &mut masks,
+        &mut order,
+        &mut first,
+        &mut met,
+        keep,
+        holds,
+        lm,
+        rm,
+        sides,
+    )
+}
+
+// The widest table: it is written to the raster; the pairs set and whether the start pair is one are returned.
 pub fn widest(
     raster: &mut [u8],
     keep: &[u8],
@@ -149,11 +219,10 @@ pub fn widest(
     ensures { λ r. ⌜ Widest-answers (now (keep .entry)) (now (holds .entry)) (now (lm .entry)) (now (rm .entry)) sides
         (now (raster .entry)) (now (raster .exit)) (r .count) (r .start) ⌝ }
 {
-    let n = sides.left_states;
-    let w = sides.right_states;
-    tables_fill::fill(raster, keep, holds, n, w);
-    let count = tables_count::pairs(raster, n, w);
-    let left = settle(raster, lm, rm, sides, count);
-    let start = tables_rows::is_set(raster, n, w, sides.left_start, sides.right_start);
-    WidestTable { count: left, start }
+    if sides.left_states <= FEW_STATES {
+        if sides.right_states <= FEW_STATES {
+            return widest_of_few(raster, keep, holds, lm, rm, sides);
+        }
+    }
+    widest_of_many(raster, keep, holds, lm, rm, sides)
 }

@@ -63,11 +63,11 @@ module _ (left right lm rm lh rh : List ℕ) (t : TwoTexts) (O : Loads left righ
         line run) r e
 
     pub search-done : (e : t .answer ≡ verdict.Accepted) (o : Outcome)
-        → Searches (t .sides) (t .inputs) lm rm lh keep back line run o
+        → Searches (t .sides) (t .inputs) lm rm lh rh keep back line run o
         → o ≡ search-outcome left right keep back line run
     unfolding search-outcome
     search-done e o S =
-        S _ (left-system (both e)) (right-system (both e)) rh (loaded e)
+        S _ (left-system (both e)) (right-system (both e)) (loaded e)
         ∙ by-texts e (λ r. search.refused r keep run)
         (λ e. search-systems (left-system (compared left right e)) (right-system (compared left right e)) keep back
         line run)

@@ -41,7 +41,7 @@ pub fn search(
         Verdict::Accepted => {
             let sides = t.sides;
             let inputs = t.inputs;
-            search::search(sides, inputs, lm, rm, lh, keep, back, line, run)
+            search::search(sides, inputs, lm, rm, lh, rh, keep, back, line, run)
         }
     }
 }

@@ -2,6 +2,15 @@
 //!
 //! They go through the wrapper's declarations and return the numbers as they come, undecoded. The functions need more
 //! stack than a thread has by default (`megzhoi::STACK`): call them inside `on_large_stack`.
+//!
+//! The operations on two texts are also there as a trait, for the library that is linked, for an older build of it
+//! and for plain Rust, so that one program can hold them against each other.
+
+mod build;
+mod operations;
+
+pub use build::Build;
+pub use operations::{ByPairs, ByRows, Operations};
 
 use megzhoi::raw;
 
@@ -57,62 +66,13 @@ pub fn search(
     line: &mut [u32],
     run: &mut [u32],
 ) -> Returned {
-    // SAFETY: as in `read`.
-    returned(|file, p, q| unsafe {
-        raw::megzhoi_search(
-            left.as_ptr(),
-            left.len(),
-            right.as_ptr(),
-            right.len(),
-            keep.as_mut_ptr(),
-            keep.len(),
-            back.as_mut_ptr(),
-            back.len(),
-            line.as_mut_ptr(),
-            line.len(),
-            run.as_mut_ptr(),
-            run.len(),
-            file,
-            p,
-            q,
-        )
-    })
+    Build::LINKED.search(left, right, keep, back, line, run)
 }
 
 pub fn check(left: &[u8], right: &[u8], keep: &mut [u8], table: &[u8]) -> Returned {
-    // SAFETY: as in `read`.
-    returned(|file, p, q| unsafe {
-        raw::megzhoi_check(
-            left.as_ptr(),
-            left.len(),
-            right.as_ptr(),
-            right.len(),
-            keep.as_mut_ptr(),
-            keep.len(),
-            table.as_ptr(),
-            table.len(),
-            file,
-            p,
-            q,
-        )
-    })
+    Build::LINKED.check(left, right, keep, table)
 }
 
 pub fn widest(left: &[u8], right: &[u8], keep: &mut [u8], table: &mut [u8]) -> Returned {
-    // SAFETY: as in `read`.
-    returned(|file, p, q| unsafe {
-        raw::megzhoi_widest(
-            left.as_ptr(),
-            left.len(),
-            right.as_ptr(),
-            right.len(),
-            keep.as_mut_ptr(),
-            keep.len(),
-            table.as_mut_ptr(),
-            table.len(),
-            file,
-            p,
-            q,
-        )
-    })
+    Build::LINKED.widest(left, right, keep, table)
 }

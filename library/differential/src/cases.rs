@@ -1,9 +1,10 @@
 //! What one call is given: texts, lengths of the lent slices, a table.
 
+use texts::kinds::{departing, texts, Kind, KINDS};
 use texts::{at_a_limit, damaged, early, hush, idle, noise, post, rearm, Model, Random};
 
 /// Larger products are only tried with slices too short for them, to keep the run short.
-const PAIRS_LIMIT: usize = 300_000;
+const PAIRS_LIMIT: usize = 520_000;
 
 /// One text: mostly accepted, else with a fault, at a limit, or noise.
 pub fn text(random: &mut Random) -> Vec<u8> {
@@ -39,6 +40,22 @@ pub fn two_texts(random: &mut Random) -> (Vec<u8>, Vec<u8>) {
     match random.chance(50) {
         true => (left.text(random), right.text(random)),
         false => (right.text(random), left.text(random)),
+    }
+}
+
+/// Two texts of a kind of 4 to 720 states, in either order; now and then the left is that of another kind.
+pub fn two_of_a_kind(random: &mut Random) -> (Vec<u8>, Vec<u8>) {
+    let kind = *random.pick(&KINDS);
+    let most = *random.pick(&[40, 150, 720]);
+    let (states, clocks, channels) = (random.between(4, most), random.between(1, 3), random.between(2, 16));
+    let make = if channels > 2 && random.chance(25) { departing } else { texts };
+    let (left, right) = make(kind, states, clocks, channels);
+    match random.below(10) {
+        0..=5 => (left, right),
+        6..=7 => (right, left),
+        // The two kinds have equal inputs.
+        8 => (texts(Kind::Late, states, clocks, channels).0, texts(Kind::Full, states, clocks, channels).1),
+        _ => (texts(*random.pick(&KINDS), states, clocks, channels).0, right),
     }
 }
 
@@ -83,7 +100,7 @@ pub fn table(random: &mut Random, left: &[u8], right: &[u8], sizes: Option<(usiz
     let mut table = vec![0; header.len() + rows * row];
     table[..header.len()].copy_from_slice(&header);
     // A refusal leaves the empty table; it is as good to try.
-    let _ = plain::widest(left, right, &mut [0; 512], &mut table);
+    let _ = plain::widest_by_rows(left, right, &mut [0; 512], &mut table);
     let raster = Raster { header: header.len(), row, rows, width };
     match random.below(20) {
         0..=6 => (),

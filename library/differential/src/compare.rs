@@ -1,7 +1,8 @@
-//! One call made twice, by the library and in plain Rust, and everything it returns or writes compared.
+//! One call made twice, by the library and by another (plain Rust or an older build), and everything it returns or
+//! writes compared.
 
 use crate::cases;
-use boundary::Returned;
+use boundary::{Build, Operations, Returned};
 use plain::codes::RUN_TOO_SHORT;
 use std::fmt::Debug;
 use texts::Random;
@@ -22,26 +23,26 @@ pub struct Made {
 }
 
 impl Made {
-    fn new(library: Returned, plain: Returned, given: Vec<(&'static str, Vec<u8>)>, lengths: String) -> Made {
+    fn new(library: Returned, other: Returned, given: Vec<(&'static str, Vec<u8>)>, lengths: String) -> Made {
         let mut made = Made { returned: library, differences: Vec::new(), given, lengths };
-        made.compare("returned", &library, &plain);
+        made.compare("returned", &library, &other);
         made
     }
 
-    fn compare<T: PartialEq + Debug + ?Sized>(&mut self, what: &str, library: &T, plain: &T) {
-        if library != plain {
-            self.differences.push(format!("{what}:\n  library {library:?}\n  plain   {plain:?}"));
+    fn compare<T: PartialEq + Debug + ?Sized>(&mut self, what: &str, library: &T, other: &T) {
+        if library != other {
+            self.differences.push(format!("{what}:\n  library {library:?}\n  other   {other:?}"));
         }
     }
 
-    fn compare_lent<T: PartialEq + Debug>(&mut self, what: &str, library: &Lent<T>, plain: &Lent<T>) {
-        self.compare(what, &library.entries[..library.length], &plain.entries[..plain.length]);
-        self.compare_beyond(what, library, plain);
+    fn compare_lent<T: PartialEq + Debug>(&mut self, what: &str, library: &Lent<T>, other: &Lent<T>) {
+        self.compare(what, &library.entries[..library.length], &other.entries[..other.length]);
+        self.compare_beyond(what, library, other);
     }
 
-    fn compare_beyond<T: PartialEq + Debug>(&mut self, what: &str, library: &Lent<T>, plain: &Lent<T>) {
+    fn compare_beyond<T: PartialEq + Debug>(&mut self, what: &str, library: &Lent<T>, other: &Lent<T>) {
         let what = format!("past the end of {what}");
-        self.compare(&what, &library.entries[library.length..], &plain.entries[plain.length..]);
+        self.compare(&what, &library.entries[library.length..], &other.entries[other.length..]);
     }
 }
 
@@ -71,17 +72,6 @@ fn lent_words(random: &mut Random, length: usize) -> Lent<u32> {
     Lent::new(random, length, |number| number as u32)
 }
 
-/// A plain answer in the form in which the library returns it.
-fn plainly<T>(answer: Result<T, plain::Refusal>, values: impl Fn(T) -> (usize, usize)) -> Returned {
-    match answer {
-        Err(plain::Refusal { code, file, p, q }) => Returned { code, file, p, q },
-        Ok(answer) => {
-            let (p, q) = values(answer);
-            Returned { code: SUCCESS, file: 0, p, q }
-        }
-    }
-}
-
 pub fn read(random: &mut Random) -> Made {
     let text = cases::text(random);
     let length = match random.below(4) {
@@ -94,7 +84,7 @@ pub fn read(random: &mut Random) -> Made {
     let answer = plain::read(&text);
     let returned = boundary::read(&text, library.slice());
     let lengths = format!("record {length}");
-    let plainly = plainly(answer.as_ref().map_err(|refusal| *refusal), |record| (record.states, 0));
+    let plainly = Returned::plainly(answer.as_ref().map_err(|refusal| *refusal), |record| (record.states, 0));
     let mut made = Made::new(returned, plainly, vec![("text", text)], lengths);
     made.compare_beyond("record", &library, &before);
     match answer {
@@ -126,7 +116,7 @@ pub fn safe_states(random: &mut Random) -> Made {
     let mut plain = library.clone();
     let returned = boundary::safe_states(&text, library.slice());
     let answer = plain::safe_states(&text, plain.slice());
-    let plainly = plainly(answer, |safe| (safe.count, usize::from(safe.start)));
+    let plainly = Returned::plainly(answer, |safe| (safe.count, usize::from(safe.start)));
     let mut made = Made::new(returned, plainly, vec![("text", text)], format!("keep {length}"));
     made.compare_lent("keep", &library, &plain);
     made
@@ -141,24 +131,27 @@ struct Borrowed {
     run: Lent<u32>,
 }
 
-pub fn search(random: &mut Random) -> Made {
-    let (left, right) = cases::two_texts(random);
-    let mut library = borrowed(random, &left, &right);
-    let before = library.clone();
-    let mut plain = library.clone();
-    let Borrowed { keep, back, line, run } = &mut library;
-    let returned = boundary::search(&left, &right, keep.slice(), back.slice(), line.slice(), run.slice());
-    let Borrowed { keep, back, line, run } = &mut plain;
-    let answer = plain::search(&left, &right, keep.slice(), back.slice(), line.slice(), run.slice());
-    let lengths = [keep.length, back.length, line.length, run.length];
+/// Left and right.
+type Texts = (Vec<u8>, Vec<u8>);
+
+pub fn search(random: &mut Random, other: &dyn Operations, (left, right): Texts) -> Made {
+    let mut of_library = borrowed(random, &left, &right);
+    let before = of_library.clone();
+    let mut of_other = of_library.clone();
+    let call = |operations: &dyn Operations, lent: &mut Borrowed| {
+        let Borrowed { keep, back, line, run } = lent;
+        operations.search(&left, &right, keep.slice(), back.slice(), line.slice(), run.slice())
+    };
+    let returned = call(&Build::LINKED, &mut of_library);
+    let answer = call(other, &mut of_other);
+    let lengths = [before.keep.length, before.back.length, before.line.length, before.run.length];
     let lengths = format!("keep, back, line, run {lengths:?}");
-    let given = vec![("left", left), ("right", right)];
-    let mut made = Made::new(returned, plainly(answer, |steps| (steps, 0)), given, lengths);
-    made.compare_lent("keep", &library.keep, &plain.keep);
-    made.compare_lent("run", &library.run, &plain.run);
+    let mut made = Made::new(returned, answer, vec![("left", left), ("right", right)], lengths);
+    made.compare_lent("keep", &of_library.keep, &of_other.keep);
+    made.compare_lent("run", &of_library.run, &of_other.run);
     // What back and line hold is free on success and after 21 (SPECIFICATION 13.5), elsewhere they are as they came.
     let free = matches!(made.returned.code, SUCCESS | RUN_TOO_SHORT);
-    for (what, now, then) in [("back", &library.back, &before.back), ("line", &library.line, &before.line)] {
+    for (what, now, then) in [("back", &of_library.back, &before.back), ("line", &of_library.line, &before.line)] {
         match free {
             true => made.compare_beyond(what, now, then),
             false => made.compare_lent(what, now, then),
@@ -195,23 +188,21 @@ fn borrowed(random: &mut Random, left: &[u8], right: &[u8]) -> Borrowed {
     }
 }
 
-pub fn check(random: &mut Random) -> Made {
-    let (left, right) = cases::two_texts(random);
+pub fn check(random: &mut Random, other: &dyn Operations, (left, right): Texts) -> Made {
     let sizes = cases::sizes(&left, &right);
     let table = cases::table(random, &left, &right, sizes);
     let length = cases::length(random, sizes.map_or(4, |(rows, _)| rows.div_ceil(8)));
-    let mut library = lent_bytes(random, length);
-    let mut plain = library.clone();
-    let returned = boundary::check(&left, &right, library.slice(), &table);
-    let answer = plain::check(&left, &right, plain.slice(), &table);
+    let mut of_library = lent_bytes(random, length);
+    let mut of_other = of_library.clone();
+    let returned = Build::LINKED.check(&left, &right, of_library.slice(), &table);
+    let answer = other.check(&left, &right, of_other.slice(), &table);
     let given = vec![("left", left), ("right", right), ("table", table)];
-    let mut made = Made::new(returned, plainly(answer, |pairs| (pairs, 0)), given, format!("keep {length}"));
-    made.compare_lent("keep", &library, &plain);
+    let mut made = Made::new(returned, answer, given, format!("keep {length}"));
+    made.compare_lent("keep", &of_library, &of_other);
     made
 }
 
-pub fn widest(random: &mut Random) -> Made {
-    let (left, right) = cases::two_texts(random);
+pub fn widest(random: &mut Random, other: &dyn Operations, (left, right): Texts) -> Made {
     let sizes = cases::sizes(&left, &right);
     let (rows, width) = sizes.unwrap_or((10, 10));
     let need = format!("P4\n{width} {rows}\n").len() + rows * width.div_ceil(8);
@@ -221,13 +212,12 @@ pub fn widest(random: &mut Random) -> Made {
         false => cases::length(random, need),
     };
     let (mut of_library, mut table_of_library) = (lent_bytes(random, keep), lent_bytes(random, table));
-    let (mut of_plain, mut table_of_plain) = (of_library.clone(), table_of_library.clone());
-    let returned = boundary::widest(&left, &right, of_library.slice(), table_of_library.slice());
-    let answer = plain::widest(&left, &right, of_plain.slice(), table_of_plain.slice());
-    let plainly = plainly(answer, |widest| (widest.pairs, usize::from(widest.start)));
+    let (mut of_other, mut table_of_other) = (of_library.clone(), table_of_library.clone());
+    let returned = Build::LINKED.widest(&left, &right, of_library.slice(), table_of_library.slice());
+    let answer = other.widest(&left, &right, of_other.slice(), table_of_other.slice());
     let given = vec![("left", left), ("right", right)];
-    let mut made = Made::new(returned, plainly, given, format!("keep, table {:?}", [keep, table]));
-    made.compare_lent("keep", &of_library, &of_plain);
-    made.compare_lent("table", &table_of_library, &table_of_plain);
+    let mut made = Made::new(returned, answer, given, format!("keep, table {:?}", [keep, table]));
+    made.compare_lent("keep", &of_library, &of_other);
+    made.compare_lent("table", &table_of_library, &table_of_other);
     made
 }

@@ -3,12 +3,16 @@
 //!
 //! MEGZHOI_CALLS is the number of calls (200,000), MEGZHOI_SEED the first seed (1). Call i of a run
 //! uses the seed plus i alone, so a failing call is repeated by its own seed and MEGZHOI_CALLS=1.
+//!
+//! With the word `before` the library is compared with an older build of it instead, a shared object that
+//! MEGZHOI_BEFORE names, on pairs of texts by kind and random ones; MEGZHOI_PAIRS is their number (4,000).
 
 #![forbid(unsafe_code)]
 
 mod cases;
 mod compare;
 
+use boundary::{Build, ByPairs, Operations};
 use compare::Made;
 use std::panic::{catch_unwind, AssertUnwindSafe};
 use std::process::ExitCode;
@@ -32,22 +36,43 @@ const OPERATIONS: [Operation; 5] = [
     },
     Operation {
         name: "search",
-        call: compare::search,
+        call: |random| on_two_texts(compare::search, random),
         codes: &[0, 1, 2, 3, 4, 5, 6, 7, 8, 9, 10, 11, 12, 13, 15, 17, 21],
         two_texts: true,
     },
     Operation {
         name: "check",
-        call: compare::check,
+        call: |random| on_two_texts(compare::check, random),
         codes: &[0, 1, 2, 3, 4, 5, 6, 7, 8, 9, 10, 11, 12, 13, 16, 17, 18, 19, 20],
         two_texts: true,
     },
     Operation {
         name: "widest",
-        call: compare::widest,
+        call: |random| on_two_texts(compare::widest, random),
         codes: &[0, 1, 2, 3, 4, 5, 6, 7, 8, 9, 10, 11, 12, 13, 14, 17],
         two_texts: true,
     },
+];
+
+/// A call on two texts, compared with another's.
+type OnTwoTexts = fn(&mut Random, &dyn Operations, (Vec<u8>, Vec<u8>)) -> Made;
+
+fn on_two_texts(call: OnTwoTexts, random: &mut Random) -> Made {
+    let texts = cases::two_texts(random);
+    call(random, &ByPairs, texts)
+}
+
+/// The calls made on each pair of texts to hold two builds against each other, by their place in `OPERATIONS`:
+/// one table is made, and several tables, whole and damaged ones, are checked.
+const ON_A_PAIR: [(usize, OnTwoTexts); 8] = [
+    (4, compare::widest),
+    (2, compare::search),
+    (3, compare::check),
+    (3, compare::check),
+    (3, compare::check),
+    (3, compare::check),
+    (3, compare::check),
+    (3, compare::check),
 ];
 
 /// Under this many calls a code may be missing by chance.
@@ -61,26 +86,27 @@ fn number(name: &str, default: u64) -> u64 {
 }
 
 fn main() -> ExitCode {
-    boundary::on_large_stack(run)
+    match std::env::args().nth(1).as_deref() {
+        Some("before") => boundary::on_large_stack(run_before),
+        _ => boundary::on_large_stack(run),
+    }
 }
 
+fn random_of(seed: u64) -> Random {
+    Random::new(seed.wrapping_mul(0x2545_f491_4f6c_dd1d))
+}
+
+/// Random calls, compared with plain Rust.
 fn run() -> ExitCode {
-    let (calls, seed) = (number("MEGZHOI_CALLS", 200_000), number("MEGZHOI_SEED", 1));
+    let (calls, first) = (number("MEGZHOI_CALLS", 200_000), number("MEGZHOI_SEED", 1));
     let mut counts: Counts = Default::default();
-    for i in 0..calls {
-        let random = &mut Random::new(seed.wrapping_add(i).wrapping_mul(0x2545_f491_4f6c_dd1d));
+    for seed in (0..calls).map(|i| first.wrapping_add(i)) {
+        let random = &mut random_of(seed);
         let operation = random.below(OPERATIONS.len());
-        let (name, call) = (OPERATIONS[operation].name, OPERATIONS[operation].call);
-        let Ok(made) = catch_unwind(AssertUnwindSafe(|| call(random))) else {
-            println!("PANIC in {name}; {}", repeat(seed.wrapping_add(i)));
-            return ExitCode::FAILURE;
-        };
-        if !made.differences.is_empty() {
-            println!("DIFFERENCE in {name}; {}", repeat(seed.wrapping_add(i)));
-            report(&made);
+        if !agrees(&mut counts, operation, || (OPERATIONS[operation].call)(random)) {
+            println!("repeat with MEGZHOI_SEED={seed} MEGZHOI_CALLS=1");
             return ExitCode::FAILURE;
         }
-        counts[operation][made.returned.code][made.returned.file] += 1;
     }
     print_counts(&counts);
     let missing = missing(&counts);
@@ -88,13 +114,47 @@ fn run() -> ExitCode {
         println!("NEVER SEEN: {}", missing.join("; "));
         return ExitCode::FAILURE;
     }
-    println!("{calls} calls from seed {seed}: no difference");
+    println!("{calls} calls from seed {first}: no difference");
     ExitCode::SUCCESS
 }
 
-/// How to repeat one call.
-fn repeat(seed: u64) -> String {
-    format!("repeat with MEGZHOI_SEED={seed} MEGZHOI_CALLS=1")
+/// The linked library and an older build on pairs by kind and, every fourth, on random ones.
+fn run_before() -> ExitCode {
+    let Some(before) = Build::before() else {
+        println!("MEGZHOI_BEFORE names no older build");
+        return ExitCode::FAILURE;
+    };
+    let (pairs, first) = (number("MEGZHOI_PAIRS", 4_000), number("MEGZHOI_SEED", 1));
+    let mut counts: Counts = Default::default();
+    for seed in (0..pairs).map(|i| first.wrapping_add(i)) {
+        let random = &mut random_of(seed);
+        let texts = if random.chance(75) { cases::two_of_a_kind(random) } else { cases::two_texts(random) };
+        for (operation, call) in ON_A_PAIR {
+            if !agrees(&mut counts, operation, || call(random, &before, texts.clone())) {
+                println!("repeat with MEGZHOI_SEED={seed} MEGZHOI_PAIRS=1");
+                return ExitCode::FAILURE;
+            }
+        }
+    }
+    print_counts(&counts);
+    println!("{pairs} pairs of texts from seed {first}: no difference from the older build");
+    ExitCode::SUCCESS
+}
+
+/// Makes a call and counts its code; where the two differ, or one panics, reports it and says no.
+fn agrees(counts: &mut Counts, operation: usize, call: impl FnOnce() -> Made) -> bool {
+    let name = OPERATIONS[operation].name;
+    let Ok(made) = catch_unwind(AssertUnwindSafe(call)) else {
+        println!("PANIC in {name}");
+        return false;
+    };
+    if !made.differences.is_empty() {
+        println!("DIFFERENCE in {name}");
+        report(&made);
+        return false;
+    }
+    counts[operation][made.returned.code][made.returned.file] += 1;
+    true
 }
 
 fn report(made: &Made) {
@@ -114,7 +174,9 @@ fn print_counts(counts: &Counts) {
             (of_none + of_left + of_right > 0).then(|| format!("{code}: {}{right}", of_none + of_left + of_right))
         };
         let entries: Vec<String> = by_code.iter().enumerate().filter_map(entry).collect();
-        println!("{}: {}", operation.name, entries.join(", "));
+        if !entries.is_empty() {
+            println!("{}: {}", operation.name, entries.join(", "));
+        }
     }
 }
 

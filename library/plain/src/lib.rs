@@ -11,6 +11,7 @@ mod moves;
 mod pairing;
 mod reader;
 mod record;
+mod rows;
 mod safe;
 mod search;
 mod table;
@@ -93,6 +94,21 @@ pub fn search(
 
 /// Checks that the given table is a refinement relation; gives the number of its pairs.
 pub fn check(left: &[u8], right: &[u8], keep: &mut [u8], table: &[u8]) -> Result<usize, Refusal> {
+    check_with(left, right, keep, table, table::check)
+}
+
+/// The same by rows of 64 pairs a word.
+pub fn check_by_rows(left: &[u8], right: &[u8], keep: &mut [u8], table: &[u8]) -> Result<usize, Refusal> {
+    check_with(left, right, keep, table, rows::check)
+}
+
+fn check_with(
+    left: &[u8],
+    right: &[u8],
+    keep: &mut [u8],
+    table: &[u8],
+    judge: fn(&Pair, &table::Shape, &[u8]) -> Result<usize, Refusal>,
+) -> Result<usize, Refusal> {
     let pair = read_pair(left, right)?;
     judge_keep(pair.left.states, keep)?;
     let shape = table::Shape::of(&pair);
@@ -101,11 +117,26 @@ pub fn check(left: &[u8], right: &[u8], keep: &mut [u8], table: &[u8]) -> Result
     }
     write_keep(&pair.safe, keep);
     judge_start(&pair)?;
-    table::check(&pair, &shape, table)
+    judge(&pair, &shape, table)
 }
 
 /// Writes the largest refinement relation as a table; gives its pairs and whether the start is one.
 pub fn widest(left: &[u8], right: &[u8], keep: &mut [u8], table: &mut [u8]) -> Result<Widest, Refusal> {
+    widest_with(left, right, keep, table, table::widest)
+}
+
+/// The same by rows of 64 pairs a word.
+pub fn widest_by_rows(left: &[u8], right: &[u8], keep: &mut [u8], table: &mut [u8]) -> Result<Widest, Refusal> {
+    widest_with(left, right, keep, table, rows::widest)
+}
+
+fn widest_with(
+    left: &[u8],
+    right: &[u8],
+    keep: &mut [u8],
+    table: &mut [u8],
+    make: fn(&Pair, &table::Shape, &mut [u8]) -> Widest,
+) -> Result<Widest, Refusal> {
     let pair = read_pair(left, right)?;
     judge_keep(pair.left.states, keep)?;
     let shape = table::Shape::of(&pair);
@@ -114,7 +145,7 @@ pub fn widest(left: &[u8], right: &[u8], keep: &mut [u8], table: &mut [u8]) -> R
     }
     write_keep(&pair.safe, keep);
     judge_start(&pair)?;
-    Ok(table::widest(&pair, &shape, table))
+    Ok(make(&pair, &shape, table))
 }
 
 fn judge_length(text: &[u8], file: usize) -> Result<(), Refusal> {

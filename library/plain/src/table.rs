@@ -8,8 +8,8 @@ use crate::{Pair, Refusal, Widest};
 pub struct Shape {
     header: Vec<u8>,
     /// Bytes of a row.
-    row: usize,
-    rows: usize,
+    pub row: usize,
+    pub rows: usize,
 }
 
 impl Shape {
@@ -27,12 +27,24 @@ impl Shape {
     pub fn fits(&self, table: &[u8]) -> bool {
         table.len() == self.bytes() && table.starts_with(&self.header)
     }
+
+    /// The raster of a table.
+    pub fn raster<'a>(&self, table: &'a [u8]) -> &'a [u8] {
+        &table[self.header.len()..]
+    }
+
+    /// Writes the header; gives the raster to be written.
+    pub fn write_header<'a>(&self, table: &'a mut [u8]) -> &'a mut [u8] {
+        let (header, raster) = table[..self.bytes()].split_at_mut(self.header.len());
+        header.copy_from_slice(&self.header);
+        raster
+    }
 }
 
 /// Codes 18 to 20, else the number of pairs set.
 pub fn check(pair: &Pair, shape: &Shape, table: &[u8]) -> Result<usize, Refusal> {
     let (left, right) = (&pair.left, &pair.right);
-    let relation = Relation::given(&table[shape.header.len()..], shape, right.states);
+    let relation = Relation::given(shape.raster(table), shape, right.states);
     if !relation.holds(left.start, right.start) {
         return Err(Refusal::new(codes::START_PAIR_NOT_SET, 0, left.start, right.start));
     }
@@ -58,8 +70,7 @@ pub fn check(pair: &Pair, shape: &Shape, table: &[u8]) -> Result<usize, Refusal>
 pub fn widest(pair: &Pair, shape: &Shape, table: &mut [u8]) -> Widest {
     let mut relation = Relation::all(pair);
     relation.settle(&pair.left, &Matches::new(&pair.right));
-    let (header, raster) = table[..shape.bytes()].split_at_mut(shape.header.len());
-    header.copy_from_slice(&shape.header);
+    let raster = shape.write_header(table);
     for (words, row) in relation.bits.chunks_exact(relation.words).zip(raster.chunks_exact_mut(shape.row)) {
         let bytes = words.iter().flat_map(|word| word.to_be_bytes());
         row.iter_mut().zip(bytes).for_each(|(to, from)| *to = from);

@@ -51,7 +51,7 @@ pub use refusal::{Code, NoSuchCode, Refusal, Side};
 use std::thread;
 
 /// Bytes of stack that each call is given: `MEGZHOI_STACK` of `megzhoi.h`, which says what was measured.
-pub const STACK: usize = 4 << 20;
+pub const STACK: usize = 6 << 20;
 
 /// Bytes of `keep` that are enough for every text.
 pub const KEEP_BYTES: usize = 512;

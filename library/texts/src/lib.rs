@@ -1,9 +1,10 @@
 //! Contract texts for tests and benchmarks: the posts (SPECIFICATION 16.1), seeded random texts, texts
-//! with one fault, texts at and over each limit, and texts of a chosen size.
+//! with one fault, texts at and over each limit, texts of a chosen size, and pairs of texts by kind.
 
 #![forbid(unsafe_code)]
 
 mod damage;
+pub mod kinds;
 mod limits;
 mod model;
 mod posts;

@@ -1,7 +1,7 @@
 -- step_ok goes by whether the left and the right have the move.
 use Rattle.systems.specs.Tests.{stays, lands}
 use Rattle.move_tables.specs.MoveLaws.{decode-none, decode-some}
-use Rattle.tables_check.specs.Scan.{ok-of}
+use Rattle.tables_cut.specs.Rule.{ok-of}
 use Rattle.tables_check.proofs.step_ok.Statement.{statement}
 use Rattle.tables_check.proofs.step_ok.Tie as tie
 

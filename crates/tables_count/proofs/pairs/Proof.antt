@@ -10,7 +10,7 @@ use Rattle.bitmaps.specs.Packed.{bytes-for}
 use Rattle.tables_rows.specs.Raster.{raster-limit, set-at}
 use Rattle.tables_rows.specs.RasterLaws.{row-few, row-inside, pairs-few, part-length, part-between}
 use Rattle.tables_count.specs.Pairs.{passing, pairs-set}
-use Rattle.tables_count.proofs.Laws.{pairs-le, passing-le, pairs-more}
+use Rattle.tables_count.specs.PassingLaws.{pairs-le, passing-le, pairs-more}
 use Rattle.tables_count.proofs.pairs.Statement.{statement}
 use Rattle.tables_count.proofs.pairs.Tie as tie
 

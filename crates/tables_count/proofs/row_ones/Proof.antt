@@ -6,7 +6,8 @@ use Prim.Native.Nat.{ℕ, suc, _+_, _-_, _*_, _/_, _%_, _≤_}
 use lib.ListN.{getD}
 use Rattle.bitmaps.specs.Bits.{bit-at}
 use Rattle.tables_count.specs.Pairs.{passing, high-ones}
-use Rattle.tables_count.proofs.Laws.{passing-le, passing-byte, high-le}
+use Rattle.tables_count.specs.PassingLaws.{passing-le}
+use Rattle.tables_count.proofs.Laws.{passing-byte, high-le}
 use Rattle.tables_count.proofs.row_ones.Statement.{statement}
 use Rattle.tables_count.proofs.row_ones.Tie as tie
 
@@ -28,7 +29,7 @@ add-r c =
       arith,
       loop .inv .1,
       passing-le (bit-at (args .row .now)) (8 * loop .i),
-      c .byte-ones .ensures,
+      c .whole-ones .ensures,
       high-le
           (getD (args .row .now) (loop .i) 0) 8,
     )
@@ -42,12 +43,18 @@ loop-again c =
       omega (
         arith,
         loop .inv .1,
-        c .byte-ones .ensures,
+        c .whole-ones .ensures,
         passing-byte (args .row .now) (loop .i) 8
             (omega arith),
         ap (passing (bit-at (args .row .now))) e,
       ),
     )
+
+cast-whole : tie.Need-cast-whole Inv-loop μ-loop
+cast-whole c =
+    let args = c .before .before .before .args in
+    let loop = c .before .loop in
+    omega (arith, loop .inv .1, passing-le (bit-at (args .row .now)) (8 * loop .i))
 
 returns : tie.Need-returns Inv-loop μ-loop
 returns c =
@@ -55,8 +62,8 @@ returns c =
     let loop = c .before .before .loop in
     let e : 8 * loop .i ≡ args .w = omega arith in loop .inv .1 ∙ ap (passing (bit-at (args .row .now))) e
 
-byte-ones-requires-2 : tie.Need-byte-ones-requires-2 Inv-loop μ-loop
-byte-ones-requires-2 c κs = omega arith
+byte-ones-requires : tie.Need-byte-ones-requires Inv-loop μ-loop
+byte-ones-requires c κs = omega arith
 
 add-result : tie.Need-add-result Inv-loop μ-loop
 add-result c =
@@ -66,7 +73,7 @@ add-result c =
       arith,
       loop .inv .1,
       passing-le (bit-at (args .row .now)) (8 * loop .i),
-      c .byte-ones2 .ensures,
+      c .byte-ones .ensures,
       high-le
           (getD (args .row .now) (args .w / 8) 0) (suc (args .w % 8 - 1)),
     )
@@ -81,7 +88,7 @@ returns-2 c =
       arith,
       loop .inv .1,
       ap (λ (x : ℕ). passing (bit-at (args .row .now)) (8 * x)) i,
-      c .byte-ones2 .ensures,
+      c .byte-ones .ensures,
       ap (high-ones (getD (args .row .now) (args .w / 8) 0)) a,
       passing-byte
           (args .row .now) (args .w / 8) (args .w % 8) (omega arith),
@@ -101,9 +108,10 @@ row-ones-spec =
     (λ c. search needs)
     (λ c. search needs)
     loop-again
+    cast-whole
     returns
     (λ c. search needs)
     (λ c. search needs)
-    byte-ones-requires-2
+    byte-ones-requires
     add-result
     returns-2)

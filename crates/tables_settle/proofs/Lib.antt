@@ -1,0 +1,3 @@
+pub mod DoneLaws
+pub mod BitLaws
+pub mod TurnLaws

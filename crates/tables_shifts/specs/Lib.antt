@@ -1,0 +1,3 @@
+pub mod Shifts
+pub mod ShiftsLaws
+pub mod Placing

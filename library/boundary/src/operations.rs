@@ -1,0 +1,88 @@
+//! The operations on two texts, whoever carries them out.
+
+use crate::Returned;
+use plain::Refusal;
+
+pub trait Operations {
+    fn search(
+        &self,
+        left: &[u8],
+        right: &[u8],
+        keep: &mut [u8],
+        back: &mut [u32],
+        line: &mut [u32],
+        run: &mut [u32],
+    ) -> Returned;
+
+    fn check(&self, left: &[u8], right: &[u8], keep: &mut [u8], table: &[u8]) -> Returned;
+
+    fn widest(&self, left: &[u8], right: &[u8], keep: &mut [u8], table: &mut [u8]) -> Returned;
+}
+
+/// Plain Rust, tables pair by pair.
+pub struct ByPairs;
+
+/// Plain Rust, tables row by row.
+pub struct ByRows;
+
+impl Returned {
+    /// A plain answer in the form in which the library returns it.
+    pub fn plainly<T>(answer: Result<T, Refusal>, values: impl Fn(T) -> (usize, usize)) -> Returned {
+        match answer {
+            Err(Refusal { code, file, p, q }) => Returned { code, file, p, q },
+            Ok(answer) => {
+                let (p, q) = values(answer);
+                Returned { code: 0, file: 0, p, q }
+            }
+        }
+    }
+}
+
+fn pairs_and_start(widest: plain::Widest) -> (usize, usize) {
+    (widest.pairs, usize::from(widest.start))
+}
+
+impl Operations for ByPairs {
+    fn search(
+        &self,
+        left: &[u8],
+        right: &[u8],
+        keep: &mut [u8],
+        back: &mut [u32],
+        line: &mut [u32],
+        run: &mut [u32],
+    ) -> Returned {
+        Returned::plainly(plain::search(left, right, keep, back, line, run), |steps| (steps, 0))
+    }
+
+    fn check(&self, left: &[u8], right: &[u8], keep: &mut [u8], table: &[u8]) -> Returned {
+        Returned::plainly(plain::check(left, right, keep, table), |pairs| (pairs, 0))
+    }
+
+    fn widest(&self, left: &[u8], right: &[u8], keep: &mut [u8], table: &mut [u8]) -> Returned {
+        Returned::plainly(plain::widest(left, right, keep, table), pairs_and_start)
+    }
+}
+
+impl Operations for ByRows {
+    /// The search knows no rows.
+    fn search(
+        &self,
+        left: &[u8],
+        right: &[u8],
+        keep: &mut [u8],
+        back: &mut [u32],
+        line: &mut [u32],
+        run: &mut [u32],
+    ) -> Returned {
+        ByPairs.search(left, right, keep, back, line, run)
+    }
+
+    fn check(&self, left: &[u8], right: &[u8], keep: &mut [u8], table: &[u8]) -> Returned {
+        Returned::plainly(plain::check_by_rows(left, right, keep, table), |pairs| (pairs, 0))
+    }
+
+    fn widest(&self, left: &[u8], right: &[u8], keep: &mut [u8], table: &mut [u8]) -> Returned {
+        Returned::plainly(plain::widest_by_rows(left, right, keep, table), pairs_and_start)
+    }
+}
