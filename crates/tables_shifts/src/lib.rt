@@ -40,7 +40,7 @@ const MASK_LIMIT: usize = STEP_LIMIT * CLASS_LIMIT * KEEP_LIMIT;
 const FEW_MASK_BYTES: usize = STEP_LIMIT * CLASS_LIMIT * FEW_BYTES;
 
 // A step of fewer runs than this is done by runs, and so is one with fewer runs for each class than RUNS_WORTH.
-const MANY_RUNS: usize = 64;
+const MANY_RUNS: usize = 16;
 
 const RUNS_WORTH: usize = 8;
 
