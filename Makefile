@@ -70,6 +70,6 @@ differential: library
 compare: library
 	@cargo run --offline --release --quiet --package differential -- before
 
-# With MEGZHOI_BEFORE=FILE the tables by kind show an older build, a shared object, beside this one.
-bench: library
-	@cargo run --offline --release --quiet --package bench
+# With MEGZHOI_BEFORE=FILE every table shows an older build, a shared object, beside this one.
+bench: $(if $(MEGZHOI_BEFORE),shared,library)
+	@$(if $(MEGZHOI_BEFORE),MEGZHOI_AFTER=$(SHARED)) cargo run --offline --release --quiet --package bench

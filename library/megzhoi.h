@@ -128,8 +128,17 @@ enum {
        and for each of 3 clocks 1 where the edge sets it to 0 */
     MEGZHOI_EDGES = 540,
     MEGZHOI_EDGE_ENTRIES = 20,
-    /* a comparison: clock from 0, sign (0 <=, 1 >=, 2 ==), constant */
+    /* a comparison: clock from 0, sign (MEGZHOI_AT_MOST, ..), constant */
     MEGZHOI_COMPARISON_ENTRIES = 3
+};
+
+/* The sign of a comparison in the record. */
+enum {
+    MEGZHOI_AT_MOST = 0,  /* <= */
+    MEGZHOI_AT_LEAST = 1, /* >= */
+    MEGZHOI_EQUAL = 2,    /* == */
+    MEGZHOI_LESS = 3,     /* <  */
+    MEGZHOI_GREATER = 4   /* >  */
 };
 
 /* Reads a text. On success *p is the number of its states and *q is 0, and record gets the first min(record_len,

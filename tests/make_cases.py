@@ -22,6 +22,7 @@ CRATES = Path(__file__).parent.parent / "crates"
 KEEP, ENTRY = 0xA5, 77  # what lent bytes and entries begin as
 WHOLE = 64  # so many items are shown whole
 MOST = dict(keep=520, room=16384, back=131072, line=131072, run=512, data=524288)  # the room that test_operations has
+BUFFER = 65536  # the bytes of stdin that test_reader and test_clocks read
 LONG = ref.LIMITS["text"]
 
 
@@ -270,6 +271,19 @@ def many_states(cases):
         cases.call("W", keep=(h + 7) // 8 - 1, room=size(h, w))
 
 
+def strict_pairs(cases):
+    """Departures that a strict sign makes, each with its run: `late!` a tick too early or too late; a bound that says the same."""
+    def strict(above, below):
+        return swapped(POSTS["Strict"], (b"x > 2", b"x > %d" % above), (b"x < 4", b"x < %d" % below))
+    beats = swapped(beat(2), (b"x <= 2", b"x < 3"), (b"x >= 2", b"x > 1"))
+    for left, right, run in ((strict(1, 4), POST, [0, 0, 3]), (strict(2, 4), strict(3, 5), [0, 0, 0, 3]), (strict(3, 5), POST, [0] * 4),
+                             (strict(2, 3), POST, None), (strict(0, 2), strict(0, 4), []), (strict(0, 4), strict(0, 2), [0, 0]),
+                             (beats, beat(2), []), (beat(2), beats, []), (beats, beat(2, False), [0, 0, 1, 0]), (beat(1), beats, [0, 1])):
+        two_texts(cases, left, right)
+        found = ref.search(left, right, bytes(2), 144, 144, [])[0]
+        assert (17, 1, 0, 0) == found if run is None else ref.departure(ref.both(left, right)) == run, (found, run)
+
+
 def reading_line(text):
     """What test_clocks prints: reading, then the safe states with one byte of keep, and with 512, of which it shows seven."""
     def words(answer, done):
@@ -291,7 +305,48 @@ def known_readings():
     bad, over = faults(), rows(1, 1001)
     return [(b"", " refused 2 1 0 0 |"), (rows(1, 1000), " states 1002 |"), (over, f" refused 6 1 {over.index(b'1001')} 0 |"),
             (rows(4, 1000), " states 4008 |"), (rows(5, 1000), " refused 9 1 5010 0 |"),
-            (bad[10], " refused 10 1 5 2 |"), (bad[11], " refused 11 1 0 1 |")]
+            (bad[10], " refused 10 1 5 2 |"), (bad[11], " refused 11 1 0 1 |"),
+            *((text, f" refused 2 1 {text.index(b'{ x') + at} 0 |") for text, at in (
+                (bounded(b"x < 0"), 6), (bounded(b"x < 00"), 6), (bounded(b"x > 3"), 4), (bounded(b"x < = 3"), 6))),
+            (bounded(b"x < 1"), " states 10 |")]
+
+
+def bounded(invariant):
+    """Post with another invariant."""
+    return swapped(POST, (b"x <= 3", invariant))
+
+
+def guarded(guards, mark="?"):
+    """One location and one channel, an edge for each guard."""
+    edges = ", ".join(f"A -> A {{ guard {g}; sync a{mark}; }}" if g else f"A -> A {{ sync a{mark}; }}" for g in guards)
+    return f"broadcast chan a; process P() {{ clock x; state A; init A; trans {edges}; }} system P;".encode()
+
+
+def strict_guards():
+    """Guards of an input: every value of x is to be met once (SPECIFICATION 6.2, 7.1); M is by constants as written (SPECIFICATION 6.4)."""
+    accepted = [(["x < 3", "x >= 3"], 5), (["x <= 3", "x > 3"], 5), (["x < 3", "x > 2"], 5), (["x < 3", "x == 3", "x > 3"], 5),
+                (["x < 4", "x > 3"], 6), (["x < 1", "x > 0"], 3), (["x < 1", "x >= 1 && x < 3", "x > 2"], 5), (["x < 0", ""], 2)]
+    refused = [(["x < 3"], 10, 3), (["x <= 3"], 10, 4), (["x > 3"], 10, 0), (["x > 0"], 10, 0), (["x < 0"], 10, 0), (["x < 3", "x > 3"], 10, 3),
+               (["x == 3", "x > 3"], 10, 0), (["x <= 3", "x > 2"], 11, 3), (["x < 4", "x >= 3"], 11, 3), (["x < 4", "x > 2"], 11, 3),
+               (["x < 3", "x >= 3", "x > 3"], 11, 4), (["x < 3", "x <= 3"], 11, 0), (["x < 1", ""], 11, 0), (["x > 0", ""], 11, 1)]
+    sizes = [("x < 5", 7), ("x > 5", 7), ("x < 0", 2), ("x > 0", 2), ("x < 1000", 1002), ("x > 1000", 1002), ("x <= 4 && x < 5", 7), ("x > 4 && x >= 5", 7)]
+    return [*((guarded(g), f" states {n} |") for g, n in accepted), *((guarded(g), f" refused {c} 1 {state} 1 |") for g, c, state in refused),
+            *((guarded([g], "!"), f" states {n} |") for g, n in sizes)]
+
+
+def strict_readings():
+    """Each sign at, below and above its constant, by the safe states of a location without ticks; strict invariants."""
+    urgent = "broadcast chan a; process P() {{ clock x, y; state A {{ y <= 0 }}, B; init A; trans A -> B {{ guard x {} 3; sync a!; }}; }} system P;"
+    met = {"<": "11100", "<=": "11110", "==": "00010", ">=": "00011", ">": "00001"}  # for x from 0 to M + 1
+    by_sign = [(urgent.format(sign).encode(), f" states 20 | refused 13 0 3 0 keep 170 | safe {10 + bits.count('1')} "
+                f"{'yes' if bits[0] == '1' else 'no'} keep {int(bits + '000', 2)} 63 240 170") for sign, bits in met.items()]
+    entered = (b"broadcast chan a, b; process P() { clock x; state A, B { x < 2 }; init A; "
+               b"trans A -> B { sync a?; assign x = 0; }, B -> B { sync a?; }, B -> A { guard x > 0; sync b!; }; } system P;")
+    stopped = "broadcast chan a; process P() {{ clock x; state A {{ x < 4 }}, B; init A; trans A -> B {{ guard x > {}; sync a!; }}; }} system P;"
+    return [*by_sign, (entered, " states 8 | safe 6 yes keep 252 |"), (swapped(entered, (b" assign x = 0;", b"")), " refused 10 1 2 1 |"),
+            (stopped.format(2).encode(), " states 12 | refused 13 0 2 0 keep 170 | safe 10 yes keep 243 240"),
+            (stopped.format(3).encode(), " states 12 | refused 13 0 2 0 keep 170 | safe 6 no keep 3 240"),
+            (bounded(b"x < 4"), " states 12 | refused 13 0 2 0 keep 170 | safe 10 yes keep 243 240"), *strict_guards()]
 
 
 def boundary_readings():
@@ -307,16 +362,16 @@ def boundary_readings():
     return [*(rows(*s) for s in sizes), never, unread, cut, once, *(clocked(*t) for t in three)]
 
 
-def readings(count=260, seed=3):
+def readings(count=265, seed=3):
     """Reading and safe states: the examples, known readings, each fault, limits, random texts with up to three clocks."""
     rng = random.Random(seed)
-    texts = [*POSTS.values(), *(t for t, _ in known_readings()), *faults().values(), *boundary_readings()]
+    texts = [*POSTS.values(), *(t for t, _ in known_readings() + strict_readings()), *faults().values(), *boundary_readings()]
     while len(texts) < count:
         channels = [(f"c{i}", rng.choice("??!!!-")) for i in range(rng.choice((1, 2, 2, 3)))]
         clocks = ["x", "y", "z"][:rng.choice((0, 1, 1, 2, 3, 3))]
         text = random_text(rng, channels, clocks, rng.choice((1, 2)))
         texts.append(damaged(rng, text).replace(b"#", b"@") if rng.random() < 0.1 else text)
-    assert len(b"#".join(texts)) <= 65536
+    assert len(b"#".join(texts)) <= BUFFER
     lines = [reading_line(t) for t in texts]
     (CRATES / "test_clocks" / "stdin").write_bytes(b"#".join(texts))
     (CRATES / "test_clocks" / "stdout").write_text("\n".join(lines) + "\n")
@@ -351,6 +406,7 @@ def records():
         first, *rest = record_lines(text)
         lines += [f"{count}{first}", *rest]
         at = end + 3
+    assert len(data) <= BUFFER
     (CRATES / "test_reader" / "stdout").write_text("\n".join(lines) + "\n")
     print("test_reader", count, "texts,", len(data), "bytes")
 
@@ -374,19 +430,21 @@ def stated():
     """What SPECIFICATION 16.2 to 16.7 states of the posts is what this reading gives."""
     P, big, run = POSTS, bytes(512), [0] * 9
     assert ref.read(POST).count == 10 and ref.safe_states(POST, big)[0] == (9, 1) and ref.safe_states(P["Hush"], big)[0] == (5, 0)
+    assert ref.read(P["Strict"]).count == 12 and ref.safe_states(P["Strict"], big)[0] == (10, 1)
     assert ref.search(P["Hush"], POST, big, 100, 100, run)[0] == (17, 1, 0, 0)
     for left, right, steps in (("Post", "Post", []), ("Early", "Post", [0, 0, 3]), ("Idle", "Post", [0] * 4), ("Post", "Idle", [0, 0, 0, 3]),
-                               ("Post", "Hush", [0, 0, 0, 3]), ("Rearm", "Post", [0, 0, 0, 2, 0])):
-        n, _, found = ref.search(P[left], P[right], big, 100, 100, run)
+                               ("Post", "Hush", [0, 0, 0, 3]), ("Rearm", "Post", [0, 0, 0, 2, 0]), ("Strict", "Post", []), ("Post", "Strict", [])):
+        n, _, found = ref.search(P[left], P[right], big, 120, 120, run)
         assert n == len(steps) and found[:n] == steps, (left, right, n, found)
     answer, _, table = ref.widest(POST, POST, big, bytes(29))
     assert answer == (29, 1) and table[9:] == bytes.fromhex("80004000200010000000" + "07C0" * 5)
     assert ref.widest(POST, POST, big, bytes(28))[0] == (14, 0, 29, 0) and ref.widest(P["Rearm"], POST, big, bytes(29))[0] == (25, 0)
+    assert all(ref.widest(P[l], P[r], big, bytes(40))[0] == (34, 1) for l, r in (("Strict", "Post"), ("Post", "Strict")))
     diagonal = {(s, s) for s in ref.read(POST).safe()}
     for pairs, answer in ((diagonal, (9,)), ({(0, 0)}, (20, 0, 0, 0))):
         assert ref.check(POST, POST, big, ref.header(10, 10) + ref.raster(pairs, 10, 10))[0] == answer
     assert ref.program(P["Rearm"], POST) == b"NO 5\ntick\ntick\ntick\nspike?\ntick\n" and ref.program(POST, POST) == b"YES 29\n"
-    for text, line in known_readings():
+    for text, line in known_readings() + strict_readings():
         assert reading_line(text).startswith(line), (text, reading_line(text))
 
 
@@ -397,6 +455,7 @@ def operations():
     orders(cases)
     lengths(cases)
     tables(cases)
+    strict_pairs(cases)
     many_states(cases)
     random_pairs(cases, 1)
     missing = every_code() - cases.codes

@@ -3,7 +3,7 @@
 
 `megzhoi` and `widest` read left.xta and right.xta, `recheck` table.pbm too; each pair gets all three, `recheck` with the table that
 `widest` must have made, with damaged ones and with none. The pairs are the examples, texts with one fault each, texts at each limit
-(SPECIFICATION 4.3), files that are missing, too long or no files, and random texts (seeded).
+(SPECIFICATION 4.3), texts with strict signs, files that are missing, too long or no files, and random texts (seeded).
 Run it at the repository's root, with the programs in target/bin; the exit status is 0 when nothing differs.
 """
 import os
@@ -61,6 +61,23 @@ def at_pairs():
             (clocked((2, 3, 4), (0, 2), 1), clocked((2, 3, 4), (0, 2)))]
 
 
+def strict_pairs():
+    """Post with strict signs at, below and above its bound, with 0 after them, beside `=`, in long numerals, and at the limits."""
+    def post(invariant, guard=b"x > 2"):
+        return swapped(POST, (b"x <= 3", invariant), (b"x >= 3", guard))
+
+    def strict(bound):
+        return post(b"x < %d" % (bound + 1), b"x > %d" % (bound - 1))
+    invariants = [b"x < 5", b"x < 4", b"x < 3", b"x < 1", b"x < 01", b"x < 0", b"x < 00", b"x > 3", b"x < = 3", b"x << 3", b"x < 1000", b"x < 1001",
+                  b"x < 4 && x < 0", b"x < 4 && x <= 3", b"x < 2 && x < 3 && x < 4 && x < 5 && x < 0"]
+    guards = [b"x > 3", b"x > 1", b"x < 4", b"x < 0", b"x > 0", b"x > 2 && x < 4", b"x > = 3", b"x =< 3", b"x > 1000", b"x > 1001"]
+    texts = [*(post(i) for i in invariants), *(post(b"x < 4", g) for g in guards)]
+    zeros = [post(b"x < " + b"0" * (LONG - len(post(b"x < " + end))) + end) for end in (b"0", b"4")]
+    assert all(len(t) == LONG for t in zeros)
+    return [*(pair for t in texts + zeros for pair in ((t, POST), (POST, t), (t, POSTS["Strict"]))), (strict(61), late(62)), (late(62), strict(61)),
+            (strict(61), late(61)), (late(61), strict(61)), (strict(62), late(62)), (strict(999), POST)]
+
+
 def large_tables():
     """Tables beyond the room of `megzhoi`, for `widest` and `recheck`."""
     return [(late(148), late(148)), (rows(2, 200), rows(1, 400)), (clocked((5, 5, 5), (0,)), clocked((5, 5, 5), (0,)))]
@@ -82,7 +99,7 @@ def all_pairs():
     return [("examples", [(l, r) for l in POSTS.values() for r in POSTS.values()]),
             ("faults", [pair for t in bad.values() for pair in ((t, POST), (POST, t), (t, bad[2]))]),
             ("channels", [pair for t in channels for pair in ((t, POST), (POST, t), (POSTS["Rearm"], t), (t, POSTS["Hush"]))]),
-            ("files", in_files()), ("limits", at_limits()), ("pairs", at_pairs()), ("tables", large_tables()),
+            ("files", in_files()), ("limits", at_limits()), ("pairs", at_pairs()), ("strict", strict_pairs()), ("tables", large_tables()),
             ("random", random_pairs(150, 7)), ("telling", telling_pairs(random.Random(8)))]
 
 

@@ -82,8 +82,21 @@ def long_edges(count, locations=8):
     return f"broadcast chan o; process P() {{ clock x; state {places}; init l0; trans {edges}; }} system P;".encode()
 
 
-def constraint(rng, clocks, signs, most):
-    return " && ".join(f"{rng.choice(clocks)} {rng.choice(signs)} {rng.randrange(most + 1)}" for _ in range(rng.choice((1, 1, 2))))
+def constraint(rng, clocks, most, in_invariant=False):
+    """One comparison or two; in an invariant `<` has now and then the 0 that is refused (SPECIFICATION 3.2)."""
+    def comparison():
+        sign = rng.choice(list(ref.INVARIANT_SIGNS if in_invariant else ref.SIGNS))
+        least = 1 if in_invariant and sign == "<" and rng.random() < 0.97 else 0
+        return f"{rng.choice(clocks)} {sign} {rng.randrange(least, most + 1)}"
+    return " && ".join(comparison() for _ in range(rng.choice((1, 1, 2))))
+
+
+def split(rng, clock, most):
+    """Two guards that share the values of a clock, each with a strict sign or without; now and then they miss or share one."""
+    low = high = rng.randrange(1, most + 1)  # the first value that the second guard is to have
+    if rng.random() < 0.04:
+        low, high = rng.choice(((low + 1, high), (low, high + 1)))
+    return (rng.choice((f"{clock} < {low}", f"{clock} <= {low - 1}")), rng.choice((f"{clock} >= {high}", f"{clock} > {high - 1}")))
 
 
 def random_edges(rng, channels, clocks, locations, most):
@@ -97,12 +110,11 @@ def random_edges(rng, channels, clocks, locations, most):
     for name, mark in channels:
         for source in locations if mark != "-" else ():
             if mark == "!" and rng.random() < 0.7:
-                guard = f"guard {constraint(rng, clocks, ['<=', '>=', '=='], most)}; " if clocks and rng.random() < 0.6 else ""
+                guard = f"guard {constraint(rng, clocks, most)}; " if clocks and rng.random() < 0.6 else ""
                 edge(source, guard, name + mark)
             elif mark == "?" and clocks and rng.random() < 0.3:
-                clock, bound = rng.choice(clocks), rng.randrange(most)
-                edge(source, f"guard {clock} <= {bound}; ", name + mark)
-                edge(source, f"guard {clock} >= {bound + 1}; ", name + mark)
+                for guard in split(rng, rng.choice(clocks), most):
+                    edge(source, f"guard {guard}; ", name + mark)
             elif mark == "?":
                 for _ in range(1 if rng.random() < 0.96 else 2):
                     edge(source, "", name + mark)
@@ -113,7 +125,7 @@ def random_text(rng, channels, clocks, most):
     """A small text; most are accepted. A channel's mark is `?`, `!` or, for a channel that no edge names, `-`."""
     locations = [f"L{i}" for i in range(rng.choice((1, 2, 2, 3) if len(clocks) < 3 else (1, 1, 2)))]
     bounded = 0.4 if len(clocks) < 3 else 0.25
-    declared = [l + (f" {{ {constraint(rng, clocks, ['<='], most)} }}" if clocks and rng.random() < bounded else "") for l in locations]
+    declared = [l + (f" {{ {constraint(rng, clocks, most, in_invariant=True)} }}" if clocks and rng.random() < bounded else "") for l in locations]
     edges = random_edges(rng, channels, clocks, locations, most)
     out = f"broadcast chan {', '.join(n for n, _ in channels)};\n" if channels else ""
     out += "process P() {\n" + (f"clock {', '.join(clocks)};\n" if clocks else "")
@@ -180,6 +192,22 @@ def capped_early(two, s, t, c):
     return (u if u in two.safe else None), after(two.right, t, two.map[c])
 
 
+def lax(text):
+    """The text with `<` and `>` true at their constants too; its states are numbered as before."""
+    def loosened(comparisons):
+        return [(clock, {"<": "<=", ">": ">="}.get(sign, sign), bound) for clock, sign, bound in comparisons]
+    other = copy(text)
+    other.found, other.invariants = {}, [loosened(i) for i in text.invariants]
+    other.edges = [(source, target, loosened(guard), channel, resets) for source, target, guard, channel, resets in text.edges]
+    return other
+
+
+def strict_lax(two, s, t, c):
+    """A slip: strict comparisons read as the others."""
+    u = two.lax[0].next(s, c)
+    return (u if u in two.safe else None), two.lax[1].next(t, two.map[c])
+
+
 def is_changed(two, slip):
     """Whether the slip gives another departure or another widest table."""
     other = copy(two)
@@ -192,18 +220,18 @@ def kinds_of(left, right):
     if counts(left, right) is None:
         return {"refused"}
     two = ref.both(left, right)
-    two.right_safe = two.right.safe()
+    two.right_safe, two.lax = two.right.safe(), (lax(two.left), lax(two.right))
     if two.left.start not in two.safe:
         return {"start"}
     n = len(ref.departure(two))
     facts = {"three clocks": len(two.left.clocks) == 3, "order": n != 1 and two.map != sorted(two.map), "long": n > 3,
              "refines": n == 0 and left != right}
-    facts.update((slip.__name__, is_changed(two, slip)) for slip in (left_whole, right_pruned, capped_early))
+    facts.update((slip.__name__, is_changed(two, slip)) for slip in (left_whole, right_pruned, capped_early, strict_lax))
     return {kind for kind, holds in facts.items() if holds}
 
 
 KINDS = {"refused": 6, "start": 4, "three clocks": 14, "order": 14, "long": 12, "refines": 12,
-         "left_whole": 12, "right_pruned": 12, "capped_early": 12}
+         "left_whole": 12, "right_pruned": 12, "capped_early": 12, "strict_lax": 12}
 
 
 def telling_pairs(rng, most=1500, wanted=KINDS):

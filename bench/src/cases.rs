@@ -1,21 +1,29 @@
-//! What is timed: each case calls the library and plain Rust with the same texts and slices of its own.
+//! The tables by size: every operation on texts that grow, the library beside plain Rust and, where it is given, beside
+//! an older build.
 
-use boundary::Returned;
-use std::hint::black_box;
+use crate::contenders::{contenders, Calls, Contender, PLAIN};
+use crate::operations::{check, reached, read, safe_states, search, states, widest, Operation, Texts};
+use boundary::{ByPairs, Returned};
+use std::rc::Rc;
 use texts::{chain, drifting, full_of_edges, full_of_tokens, post, scaled_post, Kind};
 
-pub struct Case {
-    pub name: String,
-    /// Compares the answers of the two; gives the number of units (pairs, states or bytes).
-    pub compare: Box<dyn FnMut() -> usize>,
-    /// The library's call and that of plain Rust.
-    pub calls: [Box<dyn FnMut()>; 2],
+pub struct Table {
+    pub title: &'static str,
+    /// A pair, a state or a byte.
+    pub unit: &'static str,
+    pub contenders: Vec<Contender>,
+    /// Groups of cases that grow in size.
+    pub groups: Vec<Vec<Case>>,
+    operation: Operation,
+    /// The number of units, from the texts and what was returned.
+    units: fn(&Texts, Returned) -> usize,
 }
 
-/// A case is made when its turn comes, so that only one case's slices are there at a time.
-type Later = Box<dyn Fn() -> Case>;
-/// Title, unit, and groups of cases that grow in size.
-type Table = (&'static str, &'static str, Vec<Vec<Later>>);
+/// The texts are made when the case's turn comes, so that only one case's slices are there at a time.
+pub struct Case {
+    pub name: String,
+    texts: Box<dyn Fn() -> Texts>,
+}
 
 /// Values of each of the two clocks: 100, 1,024 and 4,096 states.
 const SIZES: [usize; 3] = [10, 32, 64];
@@ -23,71 +31,75 @@ const CHANNELS: [usize; 2] = [4, 16];
 const KINDS: [Kind; 2] = [Kind::Refining, Kind::Departing];
 
 pub fn tables() -> Vec<Table> {
+    let contenders = contenders(&[(PLAIN, Rc::new(ByPairs))]);
+    let table = |title, unit, groups: Vec<Vec<Case>>, operation, units| {
+        let contenders = contenders.clone();
+        Table { title, unit, contenders, groups, operation, units }
+    };
+    let refining = || [drifting_groups(&[Kind::Refining]), vec![posts()]].into_iter().flatten().collect();
+    let all = [drifting_groups(&KINDS), vec![posts(), chains()]].into_iter().flatten().collect();
     vec![
-        ("Search", "pair", drifting_groups(search, &KINDS)),
-        ("Widest table", "pair", with_chain(with_post(drifting_groups(widest, &KINDS), widest), widest)),
-        ("Check of the widest table", "pair", with_post(drifting_groups(check, &[Kind::Refining]), check)),
-        ("Safe states", "state", with_post(drifting_groups(safe_states, &[Kind::Refining]), safe_states)),
-        ("Reading", "byte", reading()),
+        table("Search", "pair", drifting_groups(&KINDS), search, |texts, _| reached(texts)),
+        table("Widest table", "pair", all, widest, |(left, right), _| states(left) * states(right)),
+        table("Check of the widest table", "pair", refining(), check, |_, returned| returned.p),
+        table("Safe states", "state", of_the_left(refining()), safe_states, |(left, _), _| states(left)),
+        table("Reading", "byte", reading(), read, |(text, _), _| text.len()),
     ]
 }
 
-type Make = fn(String, Vec<u8>, Vec<u8>) -> Case;
+impl Table {
+    /// Compares the contenders; gives the number of units and a call for each contender.
+    pub fn make(&self, case: &Case) -> (usize, Calls) {
+        let texts = Rc::new((case.texts)());
+        let (returned, calls) = (self.operation)(&self.contenders, texts.clone());
+        assert_eq!(returned.code, 0, "{} is refused", case.name);
+        ((self.units)(&texts, returned), calls)
+    }
+}
 
-fn drifting_groups(make: Make, kinds: &[Kind]) -> Vec<Vec<Later>> {
-    let mut groups: Vec<Vec<Later>> = Vec::new();
+fn case(name: String, texts: impl Fn() -> Texts + 'static) -> Case {
+    Case { name, texts: Box::new(texts) }
+}
+
+fn drifting_groups(kinds: &[Kind]) -> Vec<Vec<Case>> {
+    let mut groups = Vec::new();
     for channels in CHANNELS {
-        for kind in kinds.iter().copied() {
-            let case = move |values: usize| {
+        groups.extend(kinds.iter().copied().map(|kind| {
+            let sized = SIZES.map(|values| {
                 let name = format!("{0} × {0} states, {channels} channels, {kind:?}", values * values);
-                let (left, right) = drifting(values, channels, kind);
-                make(name.to_lowercase(), left, right)
-            };
-            groups.push(
-                SIZES
-                    .iter()
-                    .map(|values| -> Later {
-                        let v = *values;
-                        Box::new(move || case(v))
-                    })
-                    .collect(),
-            );
-        }
+                case(name.to_lowercase(), move || drifting(values, channels, kind))
+            });
+            Vec::from(sized)
+        }));
     }
     groups
 }
 
-/// Adds the larger posts, where only a part of the pairs is related.
-fn with_post(mut groups: Vec<Vec<Later>>, make: Make) -> Vec<Vec<Later>> {
-    let case = move |values: usize| {
+/// The larger posts, where only a part of the pairs is related.
+fn posts() -> Vec<Case> {
+    let sized = SIZES.map(|values| {
         let name = format!("{0} × {0} states, larger post", values * values);
-        make(name, scaled_post(values), scaled_post(values))
-    };
-    groups.push(
-        SIZES
-            .iter()
-            .map(|values| -> Later {
-                let v = *values;
-                Box::new(move || case(v))
-            })
-            .collect(),
-    );
+        case(name, move || (scaled_post(values), scaled_post(values)))
+    });
+    Vec::from(sized)
+}
+
+/// The chains, where pairs are removed against the order of the state numbers.
+fn chains() -> Vec<Case> {
+    let sized = [4, 32, 128];
+    Vec::from(sized.map(|values| case(format!("{0} × {0} states, chain", 32 * values), move || chain(values))))
+}
+
+/// The same texts for an operation on one of them.
+fn of_the_left(mut groups: Vec<Vec<Case>>) -> Vec<Vec<Case>> {
+    for case in groups.iter_mut().flatten() {
+        case.name = case.name.split(" × ").last().expect("a name").replace(", refining", "");
+    }
     groups
 }
 
-/// Adds the chains, where pairs are removed against the order of the state numbers.
-fn with_chain(mut groups: Vec<Vec<Later>>, make: Make) -> Vec<Vec<Later>> {
-    let case = move |values: usize| {
-        let (left, right) = chain(values);
-        make(format!("{0} × {0} states, chain", 32 * values), left, right)
-    };
-    let later = |values: usize| -> Later { Box::new(move || case(values)) };
-    groups.push([4, 32, 128].map(later).into_iter().collect());
-    groups
-}
-
-fn reading() -> Vec<Vec<Later>> {
-    let texts: [(&'static str, fn() -> Vec<u8>); 6] = [
+fn reading() -> Vec<Vec<Case>> {
+    let texts: [(&str, fn() -> Vec<u8>); 6] = [
         ("Post", post),
         ("4 channels, 4,096 states", || drifting(64, 4, Kind::Refining).0),
         ("16 channels, 4,096 states", || drifting(64, 16, Kind::Refining).0),
@@ -95,130 +107,5 @@ fn reading() -> Vec<Vec<Later>> {
         ("128 edges, 256 states, 32,768 bytes", || full_of_edges(8)),
         ("as many tokens as possible, 32,768 bytes", full_of_tokens),
     ];
-    let later =
-        |(name, text): (&'static str, fn() -> Vec<u8>)| -> Later { Box::new(move || read(name.to_string(), text())) };
-    texts.into_iter().map(|text| vec![later(text)]).collect()
-}
-
-fn states(text: &[u8]) -> usize {
-    plain::read(text).expect("an accepted text").states
-}
-
-fn same(library: Returned, plain: (usize, usize)) {
-    let expected = Returned { code: 0, file: 0, p: plain.0, q: plain.1 };
-    assert_eq!(library, expected, "the answers differ");
-}
-
-fn search(name: String, left: Vec<u8>, right: Vec<u8>) -> Case {
-    let (rows, width) = (states(&left), states(&right));
-    let slices = move || (vec![0; 512], vec![0; rows * width], vec![0; rows * width], vec![0; 16_384]);
-    let texts = (left.clone(), right.clone());
-    let compare = move || {
-        let (mut keep, mut back, mut line, mut run) = slices();
-        let returned = boundary::search(&texts.0, &texts.1, &mut keep, &mut back, &mut line, &mut run);
-        let other = &mut vec![0; 16_384];
-        let answer = plain::search_counted(&texts.0, &texts.1, &mut keep, &mut back, &mut line, other);
-        let (steps, pairs) = answer.expect("a search that is not refused");
-        same(returned, (steps, 0));
-        assert_eq!(run, *other, "the runs differ");
-        pairs
-    };
-    let texts = (left.clone(), right.clone());
-    let (mut keep, mut back, mut line, mut run) = slices();
-    let library = move || {
-        black_box(boundary::search(&texts.0, &texts.1, &mut keep, &mut back, &mut line, &mut run));
-    };
-    let (mut keep, mut back, mut line, mut run) = slices();
-    let plain = move || {
-        black_box(plain::search(&left, &right, &mut keep, &mut back, &mut line, &mut run)).ok();
-    };
-    Case { name, compare: Box::new(compare), calls: [Box::new(library), Box::new(plain)] }
-}
-
-/// A slice long enough for the table of two texts.
-fn empty_table(left: &[u8], right: &[u8]) -> Vec<u8> {
-    vec![0; 20 + states(left) * states(right).div_ceil(8)]
-}
-
-fn widest(name: String, left: Vec<u8>, right: Vec<u8>) -> Case {
-    let texts = (left.clone(), right.clone());
-    let compare = move || {
-        let (mut made, mut other) = (empty_table(&texts.0, &texts.1), empty_table(&texts.0, &texts.1));
-        let returned = boundary::widest(&texts.0, &texts.1, &mut [0; 512], &mut made);
-        let answer = plain::widest(&texts.0, &texts.1, &mut [0; 512], &mut other).expect("a table");
-        same(returned, (answer.pairs, usize::from(answer.start)));
-        assert!(made == other, "the tables differ");
-        states(&texts.0) * states(&texts.1)
-    };
-    let texts = (left.clone(), right.clone());
-    let mut table = empty_table(&left, &right);
-    let library = move || {
-        black_box(boundary::widest(&texts.0, &texts.1, &mut [0; 512], &mut table));
-    };
-    let mut table = empty_table(&left, &right);
-    let plain = move || {
-        black_box(plain::widest(&left, &right, &mut [0; 512], &mut table)).ok();
-    };
-    Case { name, compare: Box::new(compare), calls: [Box::new(library), Box::new(plain)] }
-}
-
-fn check(name: String, left: Vec<u8>, right: Vec<u8>) -> Case {
-    let mut table = empty_table(&left, &right);
-    let pairs = plain::widest(&left, &right, &mut [0; 512], &mut table).expect("a table").pairs;
-    let header = format!("P4\n{} {}\n", states(&right), states(&left)).len();
-    table.truncate(header + states(&left) * states(&right).div_ceil(8));
-    let given = (left.clone(), right.clone(), table.clone());
-    let compare = move || {
-        same(boundary::check(&given.0, &given.1, &mut [0; 512], &given.2), (pairs, 0));
-        assert_eq!(plain::check(&given.0, &given.1, &mut [0; 512], &given.2), Ok(pairs));
-        pairs
-    };
-    let given = (left.clone(), right.clone(), table.clone());
-    let library = move || {
-        black_box(boundary::check(&given.0, &given.1, &mut [0; 512], &given.2));
-    };
-    let plain = move || {
-        black_box(plain::check(&left, &right, &mut [0; 512], &table)).ok();
-    };
-    Case { name, compare: Box::new(compare), calls: [Box::new(library), Box::new(plain)] }
-}
-
-fn safe_states(name: String, text: Vec<u8>, _: Vec<u8>) -> Case {
-    let name = name.split(" × ").last().expect("a name").replace(", refining", "");
-    let given = text.clone();
-    let compare = move || {
-        let (mut keep, mut other) = ([0; 512], [0; 512]);
-        let answer = plain::safe_states(&given, &mut other).expect("an accepted text");
-        same(boundary::safe_states(&given, &mut keep), (answer.count, usize::from(answer.start)));
-        assert_eq!(keep, other, "the safe states differ");
-        states(&given)
-    };
-    let given = text.clone();
-    let library = move || {
-        black_box(boundary::safe_states(&given, &mut [0; 512]));
-    };
-    let plain = move || {
-        black_box(plain::safe_states(&text, &mut [0; 512])).ok();
-    };
-    Case { name, compare: Box::new(compare), calls: [Box::new(library), Box::new(plain)] }
-}
-
-fn read(name: String, text: Vec<u8>) -> Case {
-    let given = text.clone();
-    let compare = move || {
-        same(boundary::read(&given, &mut [0; plain::RECORD_ENTRIES]), (states(&given), 0));
-        given.len()
-    };
-    let given = text.clone();
-    let mut record = vec![0; plain::RECORD_ENTRIES];
-    let library = move || {
-        black_box(boundary::read(&given, &mut record));
-    };
-    let mut record = vec![0; plain::RECORD_ENTRIES];
-    let plain = move || {
-        if let Ok(read) = black_box(plain::read(&text)) {
-            read.write(&mut record);
-        }
-    };
-    Case { name, compare: Box::new(compare), calls: [Box::new(library), Box::new(plain)] }
+    texts.into_iter().map(|(name, text)| vec![case(name.to_string(), move || (text(), Vec::new()))]).collect()
 }

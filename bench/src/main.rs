@@ -2,15 +2,17 @@
 //!
 //! Prints markdown tables. Every answer of the two is compared; a difference ends the run.
 //! MEGZHOI_ROUNDS is how often each is timed (7); MEGZHOI_ONLY leaves out the cases whose line does not have it.
-//! MEGZHOI_BEFORE is the path of an older build of the library as a shared object, which the tables by kind then
-//! show beside this one.
+//! MEGZHOI_BEFORE is the path of an older build of the library as a shared object, which every table then shows beside
+//! this one, timed in the same rounds; its answers have to be the same. MEGZHOI_AFTER names this build's own shared
+//! object: calls into a shared object and into a linked archive differ by a few hundredths.
 
 mod cases;
+mod contenders;
 mod kinds;
+mod operations;
 mod timing;
 
-use cases::Case;
-use kinds::{Table, AFTER, BEFORE};
+use contenders::{place, AFTER, BEFORE, PLAIN};
 use timing::{time, Times};
 
 fn main() {
@@ -20,29 +22,62 @@ fn main() {
 fn run() {
     let rounds = std::env::var("MEGZHOI_ROUNDS").map_or(7, |value| value.parse().expect("a number"));
     let only = std::env::var("MEGZHOI_ONLY").unwrap_or_default();
-    for (title, unit, groups) in cases::tables() {
-        println!("### {title}\n");
-        println!(
-            "| input | {unit}s | library best | median | plain best | median | ratio | library ns/{unit} \
-             | plain ns/{unit} | growth |"
-        );
-        println!("|---|---:|---:|---:|---:|---:|---:|---:|---:|---:|");
-        for group in groups {
-            let mut before = None;
-            for case in group.iter().map(|case| case()).filter(|case| case.name.contains(&only)) {
-                before = Some(print_case(case, rounds, before));
-            }
-        }
-        println!();
-    }
+    cases::tables().iter().for_each(|table| print_sizes(table, rounds, &only));
     kinds::tables().iter().for_each(|table| print_kinds(table, rounds, &only));
 }
 
+/// Times and prints a table by size.
+fn print_sizes(table: &cases::Table, rounds: usize, only: &str) {
+    let (title, unit) = (table.title, table.unit);
+    let (names, lines) = match place(&table.contenders, BEFORE) {
+        Some(_) => (" before best | after / before |", "---:|---:|"),
+        None => ("", ""),
+    };
+    println!("### {title}\n");
+    println!(
+        "| input | {unit}s | library best | median | plain best | median | ratio | library ns/{unit} \
+         | plain ns/{unit} | growth |{names}"
+    );
+    println!("|---|---:|---:|---:|---:|---:|---:|---:|---:|---:|{lines}");
+    for group in &table.groups {
+        let mut smaller = None;
+        for case in group.iter().filter(|case| case.name.contains(only)) {
+            smaller = Some(print_case(table, case, rounds, smaller));
+        }
+    }
+    println!();
+}
+
+/// Times one case and prints its line; gives the library's nanoseconds per unit. Growth is over those of the smaller
+/// case on the line before.
+fn print_case(table: &cases::Table, case: &cases::Case, rounds: usize, smaller: Option<f64>) -> f64 {
+    let (units, mut calls) = table.make(case);
+    let times = time(&mut calls, rounds);
+    let of = |name| Some(&times[place(&table.contenders, name)?]);
+    let (library, plain) = (of(AFTER).expect("this build"), of(PLAIN).expect("plain Rust"));
+    let per_unit = |times: &Times| times.best / units as f64;
+    let growth = smaller.map_or("".to_string(), |smaller| format!("{:.2}", per_unit(library) / smaller));
+    let before = of(BEFORE)
+        .map_or("".to_string(), |before| format!(" {} | {:.2} |", shown(before.best), library.best / before.best));
+    println!(
+        "| {} | {units} | {} | {} | {} | {} | {:.2} | {:.2} | {:.2} | {growth} |{before}",
+        case.name,
+        shown(library.best),
+        shown(library.median),
+        shown(plain.best),
+        shown(plain.median),
+        library.best / plain.best,
+        per_unit(library),
+        per_unit(plain),
+    );
+    per_unit(library)
+}
+
 /// Times and prints a table by kind.
-fn print_kinds(table: &Table, rounds: usize, only: &str) {
+fn print_kinds(table: &kinds::Table, rounds: usize, only: &str) {
     let names: Vec<&str> = table.contenders.iter().map(|contender| contender.name).collect();
-    let place = |name: &str| names.iter().position(|other| *other == name);
-    let after = place(AFTER).expect("the linked library");
+    let place = |name: &str| place(&table.contenders, name);
+    let after = place(AFTER).expect("this build");
     let against = [BEFORE, table.against].into_iter().filter_map(|name| Some((name, place(name)?)));
     let (ratios, others): (Vec<String>, Vec<usize>) =
         against.map(|(name, place)| (format!("{AFTER} / {name}").replace("library ", ""), place)).unzip();
@@ -56,27 +91,6 @@ fn print_kinds(table: &Table, rounds: usize, only: &str) {
         println!("| {} | {} | {} | {} |", case.name, case.answer, times.join(" | "), ratios.join(" | "));
     }
     println!();
-}
-
-/// Times one case and prints its line; gives the library's nanoseconds per unit.
-fn print_case(mut case: Case, rounds: usize, before: Option<f64>) -> f64 {
-    let units = (case.compare)();
-    let times = time(&mut case.calls, rounds);
-    let (library, plain) = (&times[0], &times[1]);
-    let per_unit = |times: &Times| times.best / units as f64;
-    let growth = before.map_or("".to_string(), |before| format!("{:.2}", per_unit(library) / before));
-    println!(
-        "| {} | {units} | {} | {} | {} | {} | {:.2} | {:.2} | {:.2} | {growth} |",
-        case.name,
-        shown(library.best),
-        shown(library.median),
-        shown(plain.best),
-        shown(plain.median),
-        library.best / plain.best,
-        per_unit(library),
-        per_unit(plain),
-    );
-    per_unit(library)
 }
 
 /// Nanoseconds in a unit that is easy to read.

@@ -7,6 +7,7 @@ pub mod Capped
 pub mod Faults
 pub mod Numbers
 pub mod Edges
+pub mod Signs
 pub mod Agreement
 pub mod Judgement
 pub mod Standing

@@ -12,7 +12,7 @@ use Prim.Native.Nat.{ℕ}
 use Rattle.refusals.specs.declared.Refusal.{Refusal}
 use Rattle.systems.specs.Definitions.{Largest-safe-set}
 use Rattle.clocks_read.specs.Laws.{read-accepted}
-use Rattle.two_texts.specs.Two.{two-judged}
+use Rattle.two_texts.specs.Two.{text-of, two-judged}
 use Rattle.two_texts.specs.Laws.{judged-none, channels-equal, judged-by-some}
 use Rattle.safe_states.specs.Outcome.{safe-outcome}
 use Rattle.search.specs.declared.SearchAnswer.the-variants as search-answer
@@ -27,6 +27,8 @@ use Rattle.demands.specs.Theorems as demands
 use Rattle.demands.specs.Answers.{Search-answers, Check-answers, Widest-answers}
 use Rattle.guarantees.specs.Texts.{Accepted-text, states, meaning, number, right-meaning, right-number, Equal-channels, safe-refusal}
 use Rattle.guarantees.specs.Demands.{Safe-demand}
+use Rattle.guarantees.specs.Comparisons.{Comparisons-demand}
+use Rattle.guarantees.specs.Compared.{comparisons-promised}
 use Rattle.guarantees.specs.Counted as counted
 use Rattle.guarantees.specs.Setting.{nothing-found, one-capping, left-capping, right-capping, by-texts, form-sizes, search-is, check-is, widest-is}
 
@@ -41,6 +43,11 @@ pub safe-states-given : (s : List ℕ) (a : Accepted-text s) (keep : List ℕ)
     → Long-enough (safe-refusal (safe-outcome s keep .answer))
     → Safe-demand s a keep (safe-outcome s keep)
 safe-states-given = counted.safe-demand
+
+-- The comparisons of an accepted text, as reading hands them out: what each sign says, that M + 1 stands for every larger
+-- value, and that the start's invariant holds (SPECIFICATION 17.7).
+pub comparisons-mean : (s : List ℕ) → Accepted-text s → Comparisons-demand (text-of s)
+comparisons-mean s a = comparisons-promised (text-of s) (read-accepted s a .accepted .formed)
 
 -- DEMAND 1 (SPECIFICATION 17.1). An operation on two texts gives one of the codes 1 to 12 exactly unless both texts are
 -- accepted and have equal channels; then everything lent is as it came.

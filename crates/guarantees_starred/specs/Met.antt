@@ -6,7 +6,7 @@ use mathlib.Core.List.{List}
 use Prim.Native.Nat.{ℕ, _≤_}
 use lib.Dec.{T}
 use lib.ListN.{length}
-use Rattle.reader_examples.specs.Texts.{post}
+use Rattle.reader_examples.specs.Texts.{post, strict}
 use Rattle.systems.specs.Tests.{at}
 use Rattle.systems.specs.Finite.{safe}
 use Rattle.systems.specs.Theorems.{implementation-iff}
@@ -16,8 +16,8 @@ use Rattle.demands.specs.Long.{no-refusal}
 use Rattle.demands.specs.Words.{Consistent, Long-enough, search-refusal, check-refusal, widest-refusal, Right-form}
 use Rattle.guarantees.specs.Texts.{Accepted-text, states, meaning, Equal-channels}
 use Rattle.guarantees.specs.Setting.{left-capping, Left}
-use Rattle.guarantees_starred.specs.Posts.{post-keep, post-known}
-use Rattle.guarantees_starred.specs.Runs.{post-post-equal}
+use Rattle.guarantees_starred.specs.Posts.{post-keep, post-known, strict-known}
+use Rattle.guarantees_starred.specs.Runs.{post-post-equal, strict-post-equal}
 use Rattle.guarantees_starred.specs.Sentences.{Room, ten-by-ten, diagonal-raster}
 use Rattle.guarantees_starred.specs.Tables.{diagonal-fits}
 use Rattle.guarantees_starred.specs.Outcomes.{left-accepted, right-accepted, channels-equal, facts}
@@ -26,6 +26,10 @@ use Rattle.guarantees_starred.specs.Starred.{starred-posts}
 -- an accepted text
 pub post-accepted : Accepted-text post
 post-accepted = left-accepted post-known post-known post-post-equal
+
+-- an accepted text with strict signs (SPECIFICATION 16.2)
+pub strict-accepted : Accepted-text strict
+strict-accepted = left-accepted strict-known post-known strict-post-equal
 
 -- equal channels
 pub post-channels : Equal-channels post post

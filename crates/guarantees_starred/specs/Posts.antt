@@ -1,17 +1,17 @@
--- The five texts, read and judged: accepted, and the safe states of each, computed.
+-- The six texts, read and judged: accepted, and the safe states of each, computed.
 use mathlib.Core.Path.{_≡_, refl, sym, ap, _∙_}
 use mathlib.Core.Bool.{Bool, true, false}
 use mathlib.Core.List.{List, [], _∷_}
 use Prim.Native.Nat.{ℕ}
 use Rattle.systems.specs.Finite.{safe-states}
-use Rattle.systems.specs.Compute.{safe-fast-same}
+use Rattle.systems.specs.Compute.{safe-fast, safe-fast-same}
 use Rattle.reader_record.specs.declared.Text.{Text}
 use Rattle.refusals.specs.declared.Verdict.the-variants as verdict
 use Rattle.reader.specs.declared.Parsed.{Parsed}
 use Rattle.reader.specs.Reading.{read-text}
-use Rattle.reader_examples.specs.Texts.{post, rearm, early, hush, idle}
-use Rattle.reader_examples.specs.Records.{post-record, rearm-record, early-record, hush-record, idle-record}
-use Rattle.reader_examples.specs.Read.{post-read, rearm-read, early-read, hush-read, idle-read}
+use Rattle.reader_examples.specs.Texts.{post, rearm, early, strict, hush, idle}
+use Rattle.reader_examples.specs.Records.{post-record, rearm-record, early-record, strict-record, hush-record, idle-record}
+use Rattle.reader_examples.specs.Read.{post-read, rearm-read, early-read, strict-read, hush-read, idle-read}
 use Rattle.clocks.specs.declared.Judged.the-variants.{Clean}
 use Rattle.clocks.specs.Accepted.{Accepted}
 use Rattle.clocks.specs.States.{state-count, start-state, judgement}
@@ -37,62 +37,56 @@ pub record Known (s : List ℕ) (t : Text) (n : ℕ) (K : List Bool) : Type 0 wh
   pub start : start-state t ≡ 0
   pub safe : (a : Accepted t) → safe-states (system t a) ≡ K
 
+known :
+    {s : List ℕ} {t : Text} {n : ℕ} {K : List Bool} → read-text s ≡ record { answer = verdict.Accepted; text = t }
+    → judgement t ≡ Clean → state-count t ≡ n → start-state t ≡ 0 → ((a : Accepted t) → safe-fast (system t a) ≡ K)
+    → Known s t n K
+known {s} {t} read clean size start safe = record {
+  read = read-known s t read clean;
+  size = size;
+  start = start;
+  safe = λ a. sym (safe-fast-same (system t a)) ∙ safe a;
+}
+
 abbrev pub post-keep : List Bool
 post-keep = true ∷ true ∷ true ∷ true ∷ false ∷ true ∷ true ∷ true ∷ true ∷ true ∷ []
 
 pub post-known : Known post post-record 10 post-keep
 unfolding opened
-post-known = record {
-  read = read-known post post-record post-read refl;
-  size = refl;
-  start = refl;
-  safe = λ a. sym (safe-fast-same (system post-record a));
-}
+post-known = known post-read refl refl refl (λ a. refl)
 
 abbrev pub rearm-keep : List Bool
 rearm-keep = true ∷ true ∷ true ∷ true ∷ false ∷ true ∷ true ∷ true ∷ true ∷ true ∷ []
 
 pub rearm-known : Known rearm rearm-record 10 rearm-keep
 unfolding opened
-rearm-known = record {
-  read = read-known rearm rearm-record rearm-read refl;
-  size = refl;
-  start = refl;
-  safe = λ a. sym (safe-fast-same (system rearm-record a));
-}
+rearm-known = known rearm-read refl refl refl (λ a. refl)
 
 abbrev pub early-keep : List Bool
 early-keep = true ∷ true ∷ true ∷ false ∷ true ∷ true ∷ true ∷ true ∷ []
 
 pub early-known : Known early early-record 8 early-keep
 unfolding opened
-early-known = record {
-  read = read-known early early-record early-read refl;
-  size = refl;
-  start = refl;
-  safe = λ a. sym (safe-fast-same (system early-record a));
-}
+early-known = known early-read refl refl refl (λ a. refl)
+
+abbrev pub strict-keep : List Bool
+strict-keep =
+    true ∷ true ∷ true ∷ true ∷ false ∷ false ∷ true ∷ true ∷ true ∷ true ∷ true ∷ true ∷ []
+
+pub strict-known : Known strict strict-record 12 strict-keep
+unfolding opened
+strict-known = known strict-read refl refl refl (λ a. refl)
 
 abbrev pub hush-keep : List Bool
 hush-keep = false ∷ false ∷ false ∷ false ∷ false ∷ true ∷ true ∷ true ∷ true ∷ true ∷ []
 
 pub hush-known : Known hush hush-record 10 hush-keep
 unfolding opened
-hush-known = record {
-  read = read-known hush hush-record hush-read refl;
-  size = refl;
-  start = refl;
-  safe = λ a. sym (safe-fast-same (system hush-record a));
-}
+hush-known = known hush-read refl refl refl (λ a. refl)
 
 abbrev pub idle-keep : List Bool
 idle-keep = true ∷ true ∷ true ∷ true ∷ []
 
 pub idle-known : Known idle idle-record 4 idle-keep
 unfolding opened
-idle-known = record {
-  read = read-known idle idle-record idle-read refl;
-  size = refl;
-  start = refl;
-  safe = λ a. sym (safe-fast-same (system idle-record a));
-}
+idle-known = known idle-read refl refl refl (λ a. refl)

@@ -1,11 +1,11 @@
--- The starred posts, that is the examples that are proved: what SPECIFICATION 16.2 to 16.6 say of the five texts.
+-- The starred posts, that is the examples that are proved: what SPECIFICATION 16.2 to 16.6 say of the six texts.
 -- Definitions only: Starred.antt proves them (SPECIFICATION 17.4).
 use mathlib.Core.Path.{_≡_}
 use mathlib.Core.Bool.{true, false}
 use mathlib.Core.List.{List, [], _∷_, _++_}
 use Prim.Native.Nat.{ℕ, _*_, _≤_}
 use lib.ListN.{length, drop}
-use Rattle.reader_examples.specs.Texts.{post, rearm, early, hush, idle}
+use Rattle.reader_examples.specs.Texts.{post, rearm, early, strict, hush, idle}
 use Rattle.systems.specs.Definitions.{tick}
 use Rattle.bitmaps.specs.Packed.{bytes-for}
 use Rattle.clocks_read.specs.Reading.{read-outcome}
@@ -64,6 +64,9 @@ pub record Starred : Type 0 where
   -- Post: its states, and how many are safe, the start among them (SPECIFICATION 16.2)
   pub post-states : read-outcome post .states ≡ 10
   pub post-safe : (keep : List ℕ) → 2 ≤ length keep → safe-outcome post keep .answer ≡ counted.Found 9 true
+  -- Strict: the same, with M as it is written (SPECIFICATION 16.2)
+  pub strict-states : read-outcome strict .states ≡ 12
+  pub strict-safe : (keep : List ℕ) → 2 ≤ length keep → safe-outcome strict keep .answer ≡ counted.Found 10 true
   -- Hush: how many states are safe, the start not among them (SPECIFICATION 16.3)
   pub hush-safe : (keep : List ℕ) → 2 ≤ length keep → safe-outcome hush keep .answer ≡ counted.Found 5 false
   -- 17 for it as the left of all three operations: keep is written, the run and the table are as they came
@@ -102,5 +105,12 @@ pub record Starred : Type 0 where
   pub idle-post : Searches idle post 4 10 4 (tick ∷ tick ∷ tick ∷ tick ∷ [])
   pub post-idle : Searches post idle 10 4 4 (tick ∷ tick ∷ tick ∷ 3 ∷ [])
   pub post-hush : Searches post hush 10 10 4 (tick ∷ tick ∷ tick ∷ 3 ∷ [])
+  -- Strict and Post: no departure either way, and the pairs of both widest tables (SPECIFICATION 16.6)
+  pub strict-post : Searches strict post 12 10 0 []
+  pub post-strict : Searches post strict 10 12 0 []
+  pub strict-widest : (keep table : List ℕ) → 2 ≤ length keep → 33 ≤ length table
+      → widest-outcome strict post keep table .answer ≡ made.Made 34 true
+  pub strict-widened : (keep table : List ℕ) → 2 ≤ length keep → 29 ≤ length table
+      → widest-outcome post strict keep table .answer ≡ made.Made 34 true
   -- the departure of Rearm from Post that the program prints (SPECIFICATION 16.5)
   pub rearm-post : Searches rearm post 10 10 5 (tick ∷ tick ∷ tick ∷ 2 ∷ tick ∷ [])

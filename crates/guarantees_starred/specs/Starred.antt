@@ -1,11 +1,15 @@
 -- The starred posts in one theorem about the definitions, from the texts' bytes (SPECIFICATION 17.4).
 use mathlib.Core.Path.{_≡_, refl, ap, _∙_}
-use mathlib.Core.Bool.{true, false}
+use mathlib.Core.Bool.{Bool, true, false}
 use mathlib.Core.List.{List, [], _∷_, _++_}
 use Prim.Native.Nat.{ℕ, _≤_}
 use lib.ListN.{length, drop}
 use Rattle.refusals.specs.Refusals.{start-not-safe}
-use Rattle.reader_examples.specs.Texts.{post, rearm}
+use Rattle.reader_record.specs.declared.Text.{Text}
+use Rattle.pairing.specs.Channels.{unmatched}
+use Rattle.pairing.specs.declared.Matched.the-variants.{Equal}
+use Rattle.bitmaps.specs.Packed.{bytes-for}
+use Rattle.reader_examples.specs.Texts.{post}
 use Rattle.reader_examples.specs.Records.{post-record}
 use Rattle.systems.specs.Bools.{T-true}
 use Rattle.systems.specs.Tests.{at, ones}
@@ -24,13 +28,14 @@ use Rattle.tables_check.specs.declared.Found.{Found}
 use Rattle.tables_check.specs.declared.Found.the-variants.{Passed}
 use Rattle.tables_check.specs.Judged.{pairs-judged}
 use Rattle.tables.specs.declared.CheckAnswer.the-variants as check
+use Rattle.tables.specs.declared.WidestAnswer.{WidestAnswer}
 use Rattle.tables.specs.declared.WidestAnswer.the-variants as made
 use Rattle.tables.specs.Outcome.{Checked, check-refused, scanned, Widened, widest-refused}
 use Rattle.guarantees_starred.specs.Sentences.{widest-raster, diagonal-raster, start-raster, ten-by-ten, hush-kept, Starred}
-use Rattle.guarantees_starred.specs.Safe.{post-counted, hush-counted}
-use Rattle.guarantees_starred.specs.Posts.{hush-keep, post-known, rearm-known, early-known, hush-known, idle-known}
-use Rattle.guarantees_starred.specs.Runs.{Pair, left-of, right-of, post-post-equal, early-post-equal, idle-post-equal, post-idle-equal, post-hush-equal, rearm-post-equal, hush-post-equal, post-post-run, early-post-run, idle-post-run, post-idle-run, post-hush-run, rearm-post-run}
-use Rattle.guarantees_starred.specs.Tables.{post-pairs, post-widest, post-count, post-file, file-size, header-size, rearm-count, rearm-start, diagonal-judged, start-fault, start-judged, diagonal-count, diagonal-fits, start-fits}
+use Rattle.guarantees_starred.specs.Safe.{post-counted, strict-counted, hush-counted}
+use Rattle.guarantees_starred.specs.Posts.{Known, hush-keep, post-known, rearm-known, early-known, strict-known, hush-known, idle-known}
+use Rattle.guarantees_starred.specs.Runs.{Pair, left-of, right-of, post-post-equal, early-post-equal, idle-post-equal, post-idle-equal, post-hush-equal, rearm-post-equal, hush-post-equal, strict-post-equal, post-strict-equal, strict-post-run, post-strict-run, post-post-run, early-post-run, idle-post-run, post-idle-run, post-hush-run, rearm-post-run}
+use Rattle.guarantees_starred.specs.Tables.{post-pairs, post-widest, post-count, post-file, file-size, header-size, strict-file-size, strict-file-wide, pairs-of, rearm-pairs, strict-post-pairs, post-strict-pairs, diagonal-judged, start-fault, start-judged, diagonal-count, diagonal-fits, start-fits}
 use Rattle.guarantees_starred.specs.Outcomes.{compares, of-texts, search-unsafe, check-unsafe, widest-unsafe, searched, widened, checked}
 
 -- Post against Post: the widest table and the two given ones
@@ -57,19 +62,17 @@ post-post-checked raster x form set judged keep h =
     (checked post-known post-known post-post-equal refl (ten-by-ten raster) raster x form
     (ap (λ (n : ℕ). drop n (ten-by-ten raster)) header-size) set judged keep h)
 
--- Rearm against Post
-rearm-post-made : (keep table : List ℕ) → 2 ≤ length keep → 29 ≤ length table
-    → widest-outcome rearm post keep table .answer ≡ made.Made 25 false
-rearm-post-made keep table h k =
-    let c = compares rearm-known post-known rearm-post-equal in
-    let X = widest (left-system c) (right-system c) in
-    let count : ones X ≡ 25 = of-texts rearm-known post-known rearm-post-equal
-    (λ l r p. ones (widest (left-of p) (right-of p)) ≡ 25) rearm-count in
-    let start : at X 0 ≡ false = of-texts rearm-known post-known rearm-post-equal
-    (λ l r p. at (widest (left-of p) (right-of p)) 0 ≡ false) rearm-start in
+-- two texts whose widest table is answered so
+made-as :
+    {s u : List ℕ} {l r : Text} {n m : ℕ} {K J : List Bool} (x : Known s l n K) (y : Known u r m J)
+    (e : unmatched s l u r ≡ Equal) (a : WidestAnswer) → at K 0 ≡ true
+    → ((p : Pair s u l r) → pairs-of (widest (left-of p) (right-of p)) ≡ a) → (keep table : List ℕ)
+    → bytes-for n ≤ length keep → table-bytes m n ≤ length table → widest-outcome s u keep table .answer ≡ a
+made-as x y e a safe is keep table h k =
+    let c = compares x y e in
     ap (λ (o : Widened). o .answer)
-    (widened rearm-known post-known rearm-post-equal refl X refl keep table h (rw file-size k))
-    ∙ ap (λ (n : ℕ). made.Made n (at X 0)) count ∙ ap (made.Made 25) start
+    (widened x y e safe (widest (left-system c) (right-system c)) refl keep table h k)
+    ∙ of-texts x y e (λ l r p. pairs-of (widest (left-of p) (right-of p)) ≡ a) is
 
 -- Hush's safe states as bytes
 hush-bytes : (keep : List ℕ) → packed 10 hush-keep keep ≡ hush-kept keep
@@ -84,6 +87,8 @@ unfolding scanned bit-at
 starred-posts = record {
   post-states = post-count-read;
   post-safe = post-counted;
+  strict-states = ap (λ (o : Reading). o .states) (strict-known .read) ∙ strict-known .size;
+  strict-safe = strict-counted;
   hush-safe = hush-counted;
   hush-search = λ keep back line run room. search-unsafe hush-known post-known hush-post-equal refl keep back line run room
       ∙ ap (λ (k : List ℕ). search.refused (start-not-safe 0) k run) (hush-bytes keep);
@@ -96,7 +101,14 @@ starred-posts = record {
   diagonal = λ keep h. post-post-checked diagonal-raster Passed diagonal-fits refl diagonal-judged keep h
       ∙ ap check.Accepted diagonal-count;
   start-only = post-post-checked start-raster start-fault start-fits refl start-judged;
-  rearm-widest = rearm-post-made;
+  rearm-widest = λ keep table h k. made-as rearm-known post-known rearm-post-equal (made.Made 25 false) refl rearm-pairs
+      keep table h (rw file-size k);
+  strict-post = searched strict-known post-known strict-post-equal refl [] strict-post-run;
+  post-strict = searched post-known strict-known post-strict-equal refl [] post-strict-run;
+  strict-widest = λ keep table h k. made-as strict-known post-known strict-post-equal (made.Made 34 true) refl
+      strict-post-pairs keep table h (rw strict-file-size k);
+  strict-widened = λ keep table h k. made-as post-known strict-known post-strict-equal (made.Made 34 true) refl
+      post-strict-pairs keep table h (rw strict-file-wide k);
   early-post = searched early-known post-known early-post-equal refl (tick ∷ tick ∷ 3 ∷ []) early-post-run;
   idle-post = searched idle-known post-known idle-post-equal refl (tick ∷ tick ∷ tick ∷ tick ∷ []) idle-post-run;
   post-idle = searched post-known idle-known post-idle-equal refl (tick ∷ tick ∷ tick ∷ 3 ∷ []) post-idle-run;

@@ -7,8 +7,8 @@ use Rattle.systems.specs.Tests.{at, ones, table, sieve, least}
 use Rattle.systems.specs.Definitions.{tick, Signature}
 use Rattle.systems.specs.Finite.{Finite-system, safe-states, widest, if-in, pruned, step-ok}
 use Rattle.systems.specs.Compute.{widest-by}
-use Rattle.reader_examples.specs.Texts.{post, rearm}
-use Rattle.reader_examples.specs.Records.{post-record, rearm-record}
+use Rattle.reader_examples.specs.Texts.{post, rearm, strict}
+use Rattle.reader_examples.specs.Records.{post-record, rearm-record, strict-record}
 use Rattle.bitmaps.specs.Bits.{bit-at, byte-of, tab-from}
 use Rattle.tables_check.specs.Fault.{step, step-fault, picked, row-from, table-from}
 use Rattle.tables_check.specs.declared.Fault.{Fault}
@@ -19,9 +19,11 @@ use Rattle.tables_check.specs.Judged.{breaks, least-broken, pair-fault, pairs-j
 use Rattle.tables_header.specs.Header.{digit, digits, decimal, header, header-bytes, table-bytes, begins, fits}
 use Rattle.tables_rows.specs.Raster.{set-at, denoted, in-row, raster}
 use Rattle.tables_whole.specs.TableFile.{table-file}
+use Rattle.tables.specs.declared.WidestAnswer.{WidestAnswer}
+use Rattle.tables.specs.declared.WidestAnswer.the-variants as made
 use Rattle.guarantees_starred.specs.Sentences.{widest-raster, diagonal-raster, start-raster, ten-by-ten}
 use Rattle.guarantees_starred.specs.Opened.{opened}
-use Rattle.guarantees_starred.specs.Posts.{post-keep, post-known, rearm-keep, rearm-known}
+use Rattle.guarantees_starred.specs.Posts.{post-keep, post-known, rearm-keep, rearm-known, strict-keep, strict-known}
 use Rattle.guarantees_starred.specs.Runs.{Pair, left-of, right-of}
 
 -- the widest table of Post against Post, row after row
@@ -63,15 +65,34 @@ pub header-size : header-bytes 10 10 ≡ 9
 unfolding opened-file
 header-size = refl
 
--- Rearm against Post: 25 pairs, and the start pair is not one
-pub rearm-count : (p : Pair rearm post rearm-record post-record) → ones (widest (left-of p) (right-of p)) ≡ 25
-unfolding opened
-rearm-count p = ap ones (widest-by (left-of p) (right-of p) rearm-keep (rearm-known .safe (p .left-text)))
+pub strict-file-size : table-bytes 10 12 ≡ 33
+unfolding opened-file
+strict-file-size = refl
 
-pub rearm-start : (p : Pair rearm post rearm-record post-record) → at (widest (left-of p) (right-of p)) 0 ≡ false
+pub strict-file-wide : table-bytes 12 10 ≡ 29
+unfolding opened-file
+strict-file-wide = refl
+
+-- what is answered beside a table: how many pairs it has, and whether the start pair is one
+abbrev pub pairs-of : List Bool → WidestAnswer
+pairs-of X = made.Made (ones X) (at X 0)
+
+-- Rearm against Post: 25 pairs, and the start pair is not one
+pub rearm-pairs : (p : Pair rearm post rearm-record post-record) → pairs-of (widest (left-of p) (right-of p))
+    ≡ made.Made 25 false
 unfolding opened
-rearm-start p = ap (λ (X : List Bool). at X 0)
-    (widest-by (left-of p) (right-of p) rearm-keep (rearm-known .safe (p .left-text)))
+rearm-pairs p = ap pairs-of (widest-by (left-of p) (right-of p) rearm-keep (rearm-known .safe (p .left-text)))
+
+-- Strict against Post, and Post against Strict: 34 pairs, and the start pair is one
+pub strict-post-pairs : (p : Pair strict post strict-record post-record) → pairs-of (widest (left-of p) (right-of p))
+    ≡ made.Made 34 true
+unfolding opened
+strict-post-pairs p = ap pairs-of (widest-by (left-of p) (right-of p) strict-keep (strict-known .safe (p .left-text)))
+
+pub post-strict-pairs : (p : Pair post strict post-record strict-record) → pairs-of (widest (left-of p) (right-of p))
+    ≡ made.Made 34 true
+unfolding opened
+post-strict-pairs p = ap pairs-of (widest-by (left-of p) (right-of p) post-keep (post-known .safe (p .left-text)))
 
 -- the check with the left's safe states handed over
 module _ {A : Signature} (L R : Finite-system A) (X : ℕ → ℕ → Bool) where

@@ -95,7 +95,11 @@ const SAME_NAME: usize = 25;
 
 const OTHER_NAME: usize = 26;
 
-const CHANGES: usize = 27;
+const ZERO_BOUND: usize = 27;
+
+const OTHER_SIGN: usize = 28;
+
+const CHANGES: usize = 29;
 
 // What is chosen. To the first ones the number of an edge in its group or of a comparison is added.
 const TARGETS: usize = 8;
@@ -108,41 +112,43 @@ const CLOCKS: usize = 32;
 
 const BOUNDS: usize = 40;
 
-const COUNTS: usize = 48;
+const SIGNS: usize = 48;
 
-const GROUPS: usize = 49;
+const STRICTS: usize = 56;
 
-const SIGNS: usize = 50;
+const COUNTS: usize = 64;
 
-const STARTS: usize = 51;
+const GROUPS: usize = 65;
 
-const WHITES: usize = 52;
+const STARTS: usize = 66;
 
-const BLANKS: usize = 53;
+const WHITES: usize = 67;
 
-const STRAYS: usize = 54;
+const BLANKS: usize = 68;
 
-const LETTERS: usize = 55;
+const STRAYS: usize = 69;
 
-const EXCESSES: usize = 56;
+const LETTERS: usize = 70;
 
-const WIDTHS: usize = 57;
+const EXCESSES: usize = 71;
 
-const PLACES: usize = 58;
+const WIDTHS: usize = 72;
 
-const BYTES: usize = 59;
+const PLACES: usize = 73;
 
-const CONSTANTS: usize = 60;
+const BYTES: usize = 74;
 
-const CHANNELS: usize = 61;
+const CONSTANTS: usize = 75;
 
-const LOCATIONS: usize = 62;
+const CHANNELS: usize = 76;
 
-const TURNS: usize = 63;
+const LOCATIONS: usize = 77;
 
-const CHANGE: usize = 64;
+const TURNS: usize = 78;
 
-const PARTS: usize = 65;
+const CHANGE: usize = 79;
+
+const PARTS: usize = 80;
 
 // Most texts have fewer channels of a direction, at most as many locations, and constants below this number.
 const FEW: usize = 4;
@@ -170,6 +176,8 @@ const WIDE_ODDS: usize = 8;
 
 const LARGE_ODDS: usize = 16;
 
+const SECOND_SIGN_ODDS: usize = 12;
+
 // The items of a list, and the signs of a comparison.
 const CHANNEL_ITEMS: usize = 0;
 
@@ -185,7 +193,16 @@ const AT_MOST: usize = 1;
 
 const AT_LEAST: usize = 2;
 
-const SIGN_COUNT: usize = 4;
+const EQUAL: usize = 3;
+
+const LESS: usize = 4;
+
+const GREATER: usize = 5;
+
+const SIGN_COUNT: usize = 6;
+
+// How many of them are refused in an invariant (SPECIFICATION 3.2).
+const REFUSED_SIGNS: usize = 3;
 
 // The edges of a group, one of them doubled; the groups of a location; and the edges of the largest text, so counted.
 const GROUP_EDGES: usize = 4;
@@ -254,12 +271,22 @@ fn excess(g: Shape) -> usize {
     pick(g.gap, EXCESSES, 0, 0, EITHER)
 }
 
-// The numbers of items. A change makes them as many as there may be, or one more (SPECIFICATION 4.3).
+// Whether the change is of a comparison in an invariant.
+fn changes_comparison(g: Shape) -> bool {
+    g.change == ZERO_BOUND || g.change == OTHER_SIGN
+}
+
+// The numbers of items. A change makes them as many as there may be, or one more (SPECIFICATION 4.3). A text whose change is
+// of a comparison has a clock.
 pub fn clocks(g: Shape) -> usize {
     if g.change == MANY_CLOCKS {
         return plus(CLOCK_LIMIT, excess(g));
     }
-    pick(g.size, CLOCKS, 0, 0, CLOCK_LIMIT + 1)
+    let n = pick(g.size, CLOCKS, 0, 0, CLOCK_LIMIT + 1);
+    if n == 0 && changes_comparison(g) {
+        return 1;
+    }
+    n
 }
 
 fn inputs(g: Shape) -> usize {
@@ -494,32 +521,49 @@ fn after(buf: &mut [u8], p: Pen, g: Shape, from: usize, w: &[u8]) -> Pen {
     words(buf, p, g, w)
 }
 
+// A sign and what stands after it.
 fn sign(buf: &mut [u8], p: Pen, g: Shape, sign: usize) -> Pen {
-    if sign == AT_MOST {
-        return words(buf, p, g, b"~<=~");
+    match sign {
+        AT_MOST => words(buf, p, g, b"<=~"),
+        AT_LEAST => words(buf, p, g, b">=~"),
+        LESS => words(buf, p, g, b"<~"),
+        GREATER => words(buf, p, g, b">~"),
+        _ => words(buf, p, g, b"==~"),
     }
-    if sign == AT_LEAST {
-        return words(buf, p, g, b"~>=~");
-    }
-    words(buf, p, g, b"~==~")
 }
 
-// How many comparisons an invariant has.
+// The change, if it is at a location.
+fn change_there(g: Shape, l: usize) -> usize {
+    if is_there(g, l) {
+        return g.change;
+    }
+    NO_CHANGE
+}
+
+// How many comparisons an invariant has. The last one is changed, if that is the change.
 fn invariant_count(g: Shape, l: usize) -> usize {
     if clocks(g) == 0 {
         return 0;
     }
-    if g.change == NO_INVARIANT && is_there(g, l) {
-        return 0;
-    }
-    if g.change == LONG_INVARIANT && is_there(g, l) {
-        return plus(COMPARISON_LIMIT, excess(g));
+    match change_there(g, l) {
+        NO_INVARIANT => return 0,
+        LONG_INVARIANT => return plus(COMPARISON_LIMIT, excess(g)),
+        ZERO_BOUND | OTHER_SIGN => return plus(excess(g), 1),
+        _ => {}
     }
     match choice(g, COUNTS, l, INVARIANT, INVARIANT_ODDS) {
         0..=2 => 1,
         3 => 2,
         _ => 0,
     }
+}
+
+// The change, if it is of comparison i in the invariant of a location.
+fn change_of_comparison(g: Shape, l: usize, i: usize) -> usize {
+    if changes_comparison(g) && i == excess(g) {
+        return change_there(g, l);
+    }
+    NO_CHANGE
 }
 
 // The edges of a location and a channel are a group: none, one, or two or three that split the values of a clock.
@@ -545,6 +589,14 @@ fn group_size(g: Shape, l: usize, c: usize) -> usize {
     0
 }
 
+// A sign or the strict one of its direction, for edge or comparison k.
+fn strict_or(g: Shape, l: usize, c: usize, k: usize, strict: usize, sign: usize) -> usize {
+    if choice(g, plus(STRICTS, k), l, c, EITHER) == 0 {
+        return strict;
+    }
+    sign
+}
+
 // The sign of edge j of a group: the first edge of several is for the values up to a bound, the last for those from a bound
 // on, one between for a value. A single edge of an output may have any sign.
 fn sign_of(g: Shape, l: usize, c: usize, j: usize) -> usize {
@@ -556,12 +608,12 @@ fn sign_of(g: Shape, l: usize, c: usize, j: usize) -> usize {
         return choice(g, SIGNS, l, c, SIGN_COUNT);
     }
     if j == 0 {
-        return AT_MOST;
+        return strict_or(g, l, c, j, LESS, AT_MOST);
     }
     if plus(j, 1) == n {
-        return AT_LEAST;
+        return strict_or(g, l, c, j, GREATER, AT_LEAST);
     }
-    plus(AT_LEAST, 1)
+    EQUAL
 }
 
 // How many comparisons stand in the guard of an edge, or in the invariant of a location.
@@ -581,18 +633,49 @@ fn comparison_count(g: Shape, l: usize, c: usize, j: usize) -> usize {
     1
 }
 
+// A sign that is refused in an invariant.
+fn refused_sign(g: Shape) -> usize {
+    match pick(g.gap, SIGNS, 0, 0, REFUSED_SIGNS) {
+        0 => AT_LEAST,
+        1 => EQUAL,
+        _ => GREATER,
+    }
+}
+
+fn invariant_sign(g: Shape, l: usize, i: usize) -> usize {
+    match change_of_comparison(g, l, i) {
+        ZERO_BOUND => LESS,
+        OTHER_SIGN => refused_sign(g),
+        _ => strict_or(g, l, INVARIANT, i, LESS, AT_MOST),
+    }
+}
+
+// The sign of comparison i in a guard, after the first. Those of an input's guard are always true; of the others some have
+// any sign.
+fn later_sign(g: Shape, l: usize, c: usize, i: usize) -> usize {
+    if c < inputs(g) {
+        return AT_LEAST;
+    }
+    let s = choice(g, plus(SIGNS, i), l, c, SECOND_SIGN_ODDS);
+    if s == NO_SIGN || SIGN_COUNT <= s {
+        return AT_LEAST;
+    }
+    s
+}
+
 // The sign of comparison i.
 fn sign_at(g: Shape, l: usize, c: usize, j: usize, i: usize) -> usize {
     if c == INVARIANT {
-        return AT_MOST;
+        return invariant_sign(g, l, i);
     }
     if i == 0 {
         return sign_of(g, l, c, j);
     }
-    AT_LEAST
+    later_sign(g, l, c, i)
 }
 
-// The bound of comparison i. The other comparisons of an input's guard are always true.
+// The bound of comparison i, with a sign that is not strict. The other comparisons of an input's guard are always true. The
+// bound of edges that overlap is not 0, so that `>=` may be written as `>`.
 fn bound_at(g: Shape, l: usize, c: usize, j: usize, i: usize) -> usize {
     if 0 < i && c < inputs(g) {
         return 0;
@@ -606,17 +689,69 @@ fn bound_at(g: Shape, l: usize, c: usize, j: usize, i: usize) -> usize {
     }
     match change_at(g, l, c) {
         SHIFTED_BOUND => plus(plus(b, j), 1),
-        OVERLAP => b,
+        OVERLAP => plus(b, 1),
         LARGE_BOUND => LARGEST_CONSTANT,
         TOO_LARGE_BOUND => LARGEST_CONSTANT + 1,
         _ => plus(b, j),
     }
 }
 
+// Whether a strict sign is only another way to write a comparison: in an invariant, and where several edges split the values
+// of a clock. Bounds at the limit stay.
+fn is_rewritten(g: Shape, l: usize, c: usize, i: usize, n: usize) -> bool {
+    if LARGEST_CONSTANT <= n {
+        return false;
+    }
+    c == INVARIANT || i == 0 && 1 < group_size(g, l, c)
+}
+
+// The bound as it is written: `x <= n` may be `x < n + 1`, and `x >= n`, where n is not 0, may be `x > n - 1`.
+fn written_bound(g: Shape, l: usize, c: usize, j: usize, i: usize) -> usize {
+    let n = bound_at(g, l, c, j, i);
+    if c == INVARIANT && change_of_comparison(g, l, i) == ZERO_BOUND {
+        return 0;
+    }
+    if !is_rewritten(g, l, c, i, n) {
+        return n;
+    }
+    let s = sign_at(g, l, c, j, i);
+    if s == LESS {
+        return plus(n, 1);
+    }
+    if s == GREATER && 0 < n {
+        return n - 1;
+    }
+    n
+}
+
+// Notes a sign that an invariant may not have, at the sign (SPECIFICATION 3.2).
+fn noted_sign(p: Pen, c: usize, sign: usize) -> Pen {
+    if c == INVARIANT && sign != AT_MOST && sign != LESS {
+        return noted(p, MISFIT);
+    }
+    p
+}
+
+// Notes a bound that an invariant may not have, at the numeral.
+fn noted_bound(p: Pen, c: usize, sign: usize, n: usize) -> Pen {
+    if c == INVARIANT && sign == LESS && n == 0 {
+        return noted(p, MISFIT);
+    }
+    p
+}
+
+// A sign with what stands before and after it.
+fn spaced_sign(buf: &mut [u8], p: Pen, g: Shape, c: usize, s: usize) -> Pen {
+    let q = words(&mut *buf, p, g, b"~");
+    sign(buf, noted_sign(q, c, s), g, s)
+}
+
 fn comparison(buf: &mut [u8], p: Pen, g: Shape, l: usize, c: usize, j: usize, i: usize) -> Pen {
+    let s = sign_at(g, l, c, j, i);
+    let n = written_bound(g, l, c, j, i);
     let mut q = clock(&mut *buf, p, g, choice(g, plus(CLOCKS, i), l, c, clocks(g)));
-    q = sign(&mut *buf, q, g, sign_at(g, l, c, j, i));
-    numeral(buf, q, g, bound_at(g, l, c, j, i))
+    q = spaced_sign(&mut *buf, q, g, c, s);
+    numeral(buf, noted_bound(q, c, s, n), g, n)
 }
 
 fn comparisons(

@@ -15,8 +15,9 @@ use Rattle.reader_constraints.specs.Constraints.{constant, comparison-ne
 use Rattle.reader_constraints.specs.Facts.{constant-small}
 use Rattle.limits.specs.Limits.{largest-constant}
 
-pub amount-small : (s : List ℕ) (st : Status) (a : Amount) → a ≡ constant s st → a .value ≤ largest-constant
-amount-small s st a e = rw e (constant-small s st)
+pub amount-small :
+    (least : ℕ) (s : List ℕ) (st : Status) (a : Amount) → a ≡ constant least s st → a .value ≤ largest-constant
+amount-small least s st a e = rw e (constant-small least s st)
 
 module _ (s : List ℕ) (names : List Name) (invariant : Bool) (closing : ℕ) (st : Status) (c : Constraint) where
   pub turn-full : {x : ComparisonRead} → x ≡ comparison-next s st names invariant true

@@ -10,7 +10,8 @@ use Rattle.reader_tokens.specs.Tokens.{token-at}
 use Rattle.reader_tokens.specs.declared.Token.{Token}
 use Rattle.reader_record.specs.Record.{no-comparison}
 use Rattle.reader_record.specs.declared.Name.{Name}
-use Rattle.reader_record.specs.declared.Sign.the-variants.{AtMost, AtLeast, Equal}
+use Rattle.reader_record.specs.declared.Sign.{Sign}
+use Rattle.reader_record.specs.declared.Sign.the-variants.{AtMost, AtLeast, Equal, Less, Greater}
 use Rattle.reader_record.specs.declared.Comparison.{Comparison}
 use Rattle.reader_record.specs.declared.Constraint.{Constraint}
 use Rattle.reader_parts.specs.declared.Fault.{Fault}
@@ -29,36 +30,53 @@ use Rattle.limits.specs.Limits.{clock-limit, comparison-limit, largest-constant
 abbrev pub no-amount : Fault → Amount
 no-amount f = record { status = Refused f; value = 0 }
 
--- a token that has to be a numeral: else code 2, and 6 where its value is over the limit (SPECIFICATION 4.2, 4.5)
-unfoldable pub constant-of : List ℕ → Token → Amount
-constant-of s t =
+-- a token that has to be a numeral: else code 2, and 6 where its value is over the limit (SPECIFICATION 4.2, 4.5); a
+-- value below the least one that may stand there is 2 as well (SPECIFICATION 3.2)
+unfoldable pub constant-of : ℕ → List ℕ → Token → Amount
+constant-of least s t =
     let v = numeral-value 0 (drop (t .place) s) in
     cond (eqb (t .kind) kinds.numeral)
     (cond (ltb largest-constant v)
     (no-amount (TooLarge (t .place)))
-    (record { status = At (t .end); value = v }))
+    (cond (ltb v least)
+    (no-amount (Misfit (t .place)))
+    (record { status = At (t .end); value = v })))
     (no-amount (Misfit (t .place)))
 
 -- the next token as a constant
-unfoldable pub constant : List ℕ → Status → Amount
-constant s (Refused f) = no-amount f
-constant s (At p) = constant-of s (token-at s p)
+unfoldable pub constant : ℕ → List ℕ → Status → Amount
+constant least s (Refused f) = no-amount f
+constant least s (At p) = constant-of least s (token-at s p)
+
+-- the least constant that may stand after a sign in an invariant: 0, but 1 after `<`, since `x < 0` would forbid the
+-- whole location (SPECIFICATION 3.2)
+unfoldable pub least-after : Sign → ℕ
+least-after AtMost = 0
+least-after AtLeast = 0
+least-after Equal = 0
+least-after Less = 1
+least-after Greater = 0
+
+-- the same in a guard or an invariant: in a guard 0 may stand after every sign
+unfoldable pub least-constant : Bool → Sign → ℕ
+least-constant invariant o = cond invariant (least-after o) 0
 
 abbrev pub no-sign : Fault → SignRead
 no-sign f = record { status = Refused f; sign = AtMost }
 
--- a token that has to be a sign (SPECIFICATION 3.1); an invariant has but one of them (SPECIFICATION 3.2)
+abbrev pub read-sign : Token → Sign → SignRead
+read-sign t o = record { status = At (t .end); sign = o }
+
+-- a token that has to be a sign (SPECIFICATION 3.1); an invariant has but the first two (SPECIFICATION 3.2)
 unfoldable pub sign-of : Bool → Token → SignRead
 sign-of invariant t =
-    cond (eqb (t .kind) kinds.at-most)
-    (record { status = At (t .end); sign = AtMost })
-    (cond invariant
-    (no-sign (Misfit (t .place)))
-    (cond (eqb (t .kind) kinds.at-least)
-    (record { status = At (t .end); sign = AtLeast })
-    (cond (eqb (t .kind) kinds.equal)
-    (record { status = At (t .end); sign = Equal })
-    (no-sign (Misfit (t .place))))))
+    cond (eqb (t .kind) kinds.at-most) (read-sign t AtMost)
+    (cond (eqb (t .kind) kinds.less) (read-sign t Less)
+    (cond invariant (no-sign (Misfit (t .place)))
+    (cond (eqb (t .kind) kinds.at-least) (read-sign t AtLeast)
+    (cond (eqb (t .kind) kinds.greater) (read-sign t Greater)
+    (cond (eqb (t .kind) kinds.equal) (read-sign t Equal)
+    (no-sign (Misfit (t .place))))))))
 
 -- the next token as a sign
 unfoldable pub sign-next : List ℕ → Status → Bool → SignRead
@@ -70,7 +88,7 @@ unfoldable pub comparison-next : List ℕ → Status → List Name → Bool → 
 comparison-next s st names invariant over =
     let clock = use-name s st names first-clock clock-limit over in
     let sign = sign-next s (clock .status) invariant in
-    let bound = constant s (sign .status) in
+    let bound = constant (least-constant invariant (sign .sign)) s (sign .status) in
     record {
       status = bound .status;
       comparison = record { clock = clock .number; sign = sign .sign; bound = bound .value };

@@ -18,9 +18,9 @@ use Rattle.reader_constraints.specs.declared.Amount.{Amount}
 use Rattle.reader_constraints.specs.Constraints.{no-amount, constant-of, constant}
 use Rattle.limits.specs.Limits.{largest-constant}
 
-constant-of-small : (s : List ℕ) (t : Token) → constant-of s t .value ≤ largest-constant
+constant-of-small : (least : ℕ) (s : List ℕ) (t : Token) → constant-of least s t .value ≤ largest-constant
 unfolding constant-of
-constant-of-small s t = go (eqb (t .kind) kinds.numeral) (ltb largest-constant v) refl
+constant-of-small least s t = go (eqb (t .kind) kinds.numeral) (ltb largest-constant v) refl (ltb v least)
   where
     v : ℕ
     v = numeral-value 0 (drop (t .place) s)
@@ -28,13 +28,15 @@ constant-of-small s t = go (eqb (t .kind) kinds.numeral) (ltb largest-constant v
     read : Amount
     read = record { status = At (t .end); value = v }
 
-    go : (b c : Bool) → ltb largest-constant v ≡ c →
-        cond b (cond c (no-amount (TooLarge (t .place))) read) (no-amount (Misfit (t .place))) .value ≤ largest-constant
-    go true true e = omega arith
-    go true false e = ltb-false largest-constant v e
-    go false c e = omega arith
+    go : (b c : Bool) → ltb largest-constant v ≡ c → (d : Bool) →
+        cond b (cond c (no-amount (TooLarge (t .place))) (cond d (no-amount (Misfit (t .place))) read))
+        (no-amount (Misfit (t .place))) .value ≤ largest-constant
+    go true true e d = omega arith
+    go true false e true = omega arith
+    go true false e false = ltb-false largest-constant v e
+    go false c e d = omega arith
 
-pub constant-small : (s : List ℕ) (st : Status) → constant s st .value ≤ largest-constant
+pub constant-small : (least : ℕ) (s : List ℕ) (st : Status) → constant least s st .value ≤ largest-constant
 unfolding constant
-constant-small s (At p) = constant-of-small s (token-at s p)
-constant-small s (Refused f) = omega arith
+constant-small least s (At p) = constant-of-small least s (token-at s p)
+constant-small least s (Refused f) = omega arith

@@ -3,7 +3,8 @@ ghost use mathlib.Core.Path.{_≡_};
 ghost use mathlib.Core.Bool.{true, false};
 ghost use Prim.Native.Nat.{_+_, _≤_, _<_};
 ghost use lib.ListN.{length};
-ghost use Rattle.reader_constraints.specs.Constraints.{no-amount, constant, no-sign, sign-next, comparison-next};
+ghost use Rattle.reader_constraints.specs.Constraints.{no-amount, constant-of, constant, least-after, least-constant};
+ghost use Rattle.reader_constraints.specs.Constraints.{no-sign, read-sign, sign-of, sign-next, comparison-next};
 ghost use Rattle.reader_constraints.specs.Constraints.{blank-constraint, with-comparison, constraint, optional};
 ghost use Rattle.reader_constraints.specs.Constraints.{guard, invariant};
 use limits::CLOCK_LIMIT;
@@ -17,6 +18,7 @@ use reader_record::Comparison;
 use reader_record::Constraint;
 use reader_record::Name;
 use reader_record::Sign;
+use reader_tokens::Token;
 ghost use Rattle.limits.specs.Limits.{largest-text, comparison-limit};
 
 pub struct Amount {
@@ -34,29 +36,39 @@ fn no_amount(f: Fault) -> Amount
     }
 }
 
-// The next token, which has to be a numeral of at most the largest constant.
-pub fn constant(s: &[u8], st: Status) -> Amount
-    ensures { λ r. ⌜ r ≡ constant (now (s .entry)) st ⌝ }
+// A token that has to be a numeral of at least `least` and at most the largest constant.
+fn constant_of(s: &[u8], t: Token, least: usize) -> Amount
+    ensures { λ r. ⌜ r ≡ constant-of least (now (s .entry)) t ⌝ }
+{
+    let a = t.place;
+    let misfit = Fault::Misfit(a);
+    if t.kind != reader_tokens::NUMERAL {
+        return no_amount(misfit);
+    }
+    let v = reader_tokens::number_at(s, a);
+    if LARGEST_CONSTANT < v {
+        let f = Fault::TooLarge(a);
+        return no_amount(f);
+    }
+    if v < least {
+        return no_amount(misfit);
+    }
+    let yes = Status::At(t.end);
+    Amount {
+        status: yes,
+        value: v,
+    }
+}
+
+// The next token as a constant.
+fn constant(s: &[u8], st: Status, least: usize) -> Amount
+    ensures { λ r. ⌜ r ≡ constant least (now (s .entry)) st ⌝ }
 {
     match st {
         Status::Refused(f) => no_amount(f),
         Status::At(p) => {
             let t = reader_scanner::scan(s, p);
-            let a = t.place;
-            if t.kind != reader_tokens::NUMERAL {
-                let f = Fault::Misfit(a);
-                return no_amount(f);
-            }
-            let v = reader_tokens::number_at(s, a);
-            if LARGEST_CONSTANT < v {
-                let f = Fault::TooLarge(a);
-                return no_amount(f);
-            }
-            let yes = Status::At(t.end);
-            Amount {
-                status: yes,
-                value: v,
-            }
+            constant_of(s, t, least)
         }
     }
 }
@@ -77,7 +89,44 @@ fn no_sign(f: Fault) -> SignRead
     }
 }
 
-// The next token, which has to be a sign (SPECIFICATION 3.1, in an invariant 3.2).
+fn read_sign(t: Token, sign: Sign) -> SignRead
+    ensures { λ r. ⌜ r ≡ read-sign t sign ⌝ }
+{
+    let yes = Status::At(t.end);
+    SignRead {
+        status: yes,
+        sign: sign,
+    }
+}
+
+// A token that has to be a sign (SPECIFICATION 3.1, in an invariant 3.2).
+fn sign_of(t: Token, invariant: bool) -> SignRead
+    ensures { λ r. ⌜ r ≡ sign-of invariant t ⌝ }
+{
+    let k = t.kind;
+    let f = Fault::Misfit(t.place);
+    if k == reader_tokens::AT_MOST {
+        return read_sign(t, Sign::AtMost);
+    }
+    if k == reader_tokens::LESS {
+        return read_sign(t, Sign::Less);
+    }
+    if invariant {
+        return no_sign(f);
+    }
+    if k == reader_tokens::AT_LEAST {
+        return read_sign(t, Sign::AtLeast);
+    }
+    if k == reader_tokens::GREATER {
+        return read_sign(t, Sign::Greater);
+    }
+    if k == reader_tokens::EQUAL {
+        return read_sign(t, Sign::Equal);
+    }
+    no_sign(f)
+}
+
+// The next token as a sign.
 fn sign_next(s: &[u8], st: Status, invariant: bool) -> SignRead
     ensures { λ r. ⌜ r ≡ sign-next (now (s .entry)) st invariant ⌝ }
 {
@@ -85,36 +134,32 @@ fn sign_next(s: &[u8], st: Status, invariant: bool) -> SignRead
         Status::Refused(f) => no_sign(f),
         Status::At(p) => {
             let t = reader_scanner::scan(s, p);
-            let k = t.kind;
-            let yes = Status::At(t.end);
-            let f = Fault::Misfit(t.place);
-            if k == reader_tokens::AT_MOST {
-                let sign = Sign::AtMost;
-                return SignRead {
-                    status: yes,
-                    sign: sign,
-                };
-            }
-            if invariant {
-                return no_sign(f);
-            }
-            if k == reader_tokens::AT_LEAST {
-                let sign = Sign::AtLeast;
-                return SignRead {
-                    status: yes,
-                    sign: sign,
-                };
-            }
-            if k == reader_tokens::EQUAL {
-                let sign = Sign::Equal;
-                return SignRead {
-                    status: yes,
-                    sign: sign,
-                };
-            }
-            no_sign(f)
+            sign_of(t, invariant)
         }
     }
+}
+
+// The least constant that may stand after a sign in an invariant: `x < 0` would forbid the whole location.
+fn least_after(sign: Sign) -> usize
+    ensures { λ r. ⌜ r ≡ least-after sign ⌝ }
+{
+    match sign {
+        Sign::AtMost => 0,
+        Sign::AtLeast => 0,
+        Sign::Equal => 0,
+        Sign::Less => 1,
+        Sign::Greater => 0,
+    }
+}
+
+// The same in a guard or an invariant (SPECIFICATION 3.2).
+fn least_constant(invariant: bool, sign: Sign) -> usize
+    ensures { λ r. ⌜ r ≡ least-constant invariant sign ⌝ }
+{
+    if invariant {
+        return least_after(sign);
+    }
+    0
 }
 
 pub struct ComparisonRead {
@@ -137,9 +182,10 @@ fn comparison_next(
     let after_clock = clock.status;
     let read = sign_next(s, after_clock, invariant);
     let after_sign = read.status;
-    let bound = constant(s, after_sign);
-    let number = clock.number as u8;
     let sign = read.sign;
+    let least = least_constant(invariant, sign);
+    let bound = constant(s, after_sign, least);
+    let number = clock.number as u8;
     let value = bound.value as u16;
     let made = Comparison {
         clock: number,

@@ -1,4 +1,4 @@
--- The five posts (SPECIFICATION 16.1) read to their records: computed by the definition of reading.
+-- The six posts (SPECIFICATION 16.1) read to their records: computed by the definition of reading.
 use mathlib.Core.Path.{_≡_, refl}
 use mathlib.Core.List.{List}
 use Prim.Native.Nat.{ℕ}
@@ -6,8 +6,8 @@ use Rattle.reader_record.specs.declared.Text.{Text}
 use Rattle.refusals.specs.declared.Verdict.the-variants.{Accepted}
 use Rattle.reader.specs.Reading.{read-text}
 use Rattle.reader_examples.specs.Opened.{opened}
-use Rattle.reader_examples.specs.Texts.{post, rearm, early, hush, idle}
-use Rattle.reader_examples.specs.Records.{post-record, rearm-record, early-record, hush-record, idle-record}
+use Rattle.reader_examples.specs.Texts.{post, rearm, early, strict, hush, idle}
+use Rattle.reader_examples.specs.Records.{post-record, rearm-record, early-record, strict-record, hush-record, idle-record}
 
 abbrev pub Reads-to : List ℕ → Text → Type 0
 Reads-to s t = read-text s ≡ record { answer = Accepted; text = t }
@@ -23,6 +23,10 @@ rearm-read = refl
 pub early-read : Reads-to early early-record
 unfolding opened
 early-read = refl
+
+pub strict-read : Reads-to strict strict-record
+unfolding opened
+strict-read = refl
 
 pub hush-read : Reads-to hush hush-record
 unfolding opened

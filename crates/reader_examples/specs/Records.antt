@@ -1,4 +1,4 @@
--- The records of the five texts, written out: the names by byte place and length, clocks and locations from 0, channels
+-- The records of the six texts, written out: the names by byte place and length, clocks and locations from 0, channels
 -- from 1.
 use mathlib.Core.Bool.{Bool, true, false}
 use mathlib.Core.List.{List, [], _∷_, _++_}
@@ -10,7 +10,7 @@ use Rattle.reader_record.specs.declared.Direction.{Direction}
 use Rattle.reader_record.specs.declared.Direction.the-variants as direction
 use Rattle.reader_record.specs.declared.Channel.{Channel}
 use Rattle.reader_record.specs.declared.Sign.{Sign}
-use Rattle.reader_record.specs.declared.Sign.the-variants.{AtMost, AtLeast}
+use Rattle.reader_record.specs.declared.Sign.the-variants.{AtMost, AtLeast, Less, Greater}
 use Rattle.reader_record.specs.declared.Constraint.{Constraint}
 use Rattle.reader_record.specs.declared.Label.{Label}
 use Rattle.reader_record.specs.declared.Label.the-variants.{Input, Output}
@@ -48,7 +48,7 @@ edge source target guard label reset =
       resets = filled clock-limit false (reset ∷ []);
     }
 
--- what the five texts have in common: the direction of `late`, the
+-- what the six texts have in common: the direction of `late`, the
 -- invariant of Wait, the name Done and the edges differ
 abbrev marker : Direction → Constraint → Name → List Edge → Text
 marker late wait done es = record {
@@ -67,37 +67,31 @@ marker late wait done es = record {
   «edge_count» = length es;
 }
 
-abbrev pub post-record : Text
-post-record =
-    marker direction.Output (x-is AtMost 3) (at 83 4)
+-- Post and three others: the invariant of Wait, the name Done, whether `spike` resets x, and the guard of `late` differ
+abbrev timed : Constraint → Name → Bool → Constraint → Text
+timed wait done spike late =
+    marker direction.Output wait done
     (edge 0 1 blank-constraint (Input 1) false
-    ∷ edge 0 0 blank-constraint (Input 2) false
-    ∷ edge 0 1 (x-is AtLeast 3) (Output 3) false
+    ∷ edge 0 0 blank-constraint (Input 2) spike
+    ∷ edge 0 1 late (Output 3) false
     ∷ edge 1 1 blank-constraint (Input 1) false
     ∷ edge 1 1 blank-constraint (Input 2) false
     ∷ [])
+
+abbrev pub post-record : Text
+post-record = timed (x-is AtMost 3) (at 83 4) false (x-is AtLeast 3)
 
 -- the second edge resets x
 abbrev pub rearm-record : Text
-rearm-record =
-    marker direction.Output (x-is AtMost 3) (at 83 4)
-    (edge 0 1 blank-constraint (Input 1) false
-    ∷ edge 0 0 blank-constraint (Input 2) true
-    ∷ edge 0 1 (x-is AtLeast 3) (Output 3) false
-    ∷ edge 1 1 blank-constraint (Input 1) false
-    ∷ edge 1 1 blank-constraint (Input 2) false
-    ∷ [])
+rearm-record = timed (x-is AtMost 3) (at 83 4) true (x-is AtLeast 3)
 
 -- both constants are 2
 abbrev pub early-record : Text
-early-record =
-    marker direction.Output (x-is AtMost 2) (at 83 4)
-    (edge 0 1 blank-constraint (Input 1) false
-    ∷ edge 0 0 blank-constraint (Input 2) false
-    ∷ edge 0 1 (x-is AtLeast 2) (Output 3) false
-    ∷ edge 1 1 blank-constraint (Input 1) false
-    ∷ edge 1 1 blank-constraint (Input 2) false
-    ∷ [])
+early-record = timed (x-is AtMost 2) (at 83 4) false (x-is AtLeast 2)
+
+-- strict signs, and Done stands a byte earlier in the text
+abbrev pub strict-record : Text
+strict-record = timed (x-is Less 4) (at 82 4) false (x-is Greater 2)
 
 abbrev hushed : List Edge
 hushed =

@@ -188,3 +188,42 @@ ties =
       system-channel = refl;
       system-long = refl;
     }
+
+-- strict comparisons: what an invariant may have, the rule on 0 and the longest token (SPECIFICATION 2.4, 3.1, 3.2, 4.5)
+pub record Strict : Type 0 where
+  -- 0 after `<` in an invariant, however it is written
+  pub zero : Refuses "process P(){clock x;state A{x<0},B;init B;}system P;" (misfit 30)
+  pub zeros : Refuses "process P(){clock x;state A{x<000},B;init B;}system P;" (misfit 30)
+  pub second : Refuses "process P(){clock x;state A{x<=3&&x<0},B;init B;}system P;" (misfit 36)
+  -- 1 after it passes, and so does 0 after `<=`
+  pub one : Accepts "process P(){clock x;state A{x<1},B;init B;}system P;"
+  pub zero-at-most : Accepts "process P(){clock x;state A{x<=0},B;init B;}system P;"
+  -- in a guard 0 passes
+  pub guard-zero : Accepts "broadcast chan a;process P(){clock x;state A;init A;trans A->A{guard x<0&&x>0;sync a!;};}system P;"
+  -- other signs in an invariant
+  pub greater : Refuses "process P(){clock x;state A{x>3},B;init B;}system P;" (misfit 29)
+  pub at-least : Refuses "process P(){clock x;state A{x>=3},B;init B;}system P;" (misfit 29)
+  pub equal : Refuses "process P(){clock x;state A{x==3},B;init B;}system P;" (misfit 29)
+  -- `< =` is `<` and `=`
+  pub parted : Refuses "process P(){clock x;state A{x< =3},B;init B;}system P;" (misfit 31)
+  -- a constant over the limit is 6 after `<` too
+  pub large : Refuses "process P(){clock x;state A{x<1001},B;init B;}system P;" (constant-too-large 30)
+  pub largest : Accepts "process P(){clock x;state A{x<1000},B;init B;}system P;"
+
+pub strict : Strict
+unfolding opened
+strict =
+    record {
+      zero = refl;
+      zeros = refl;
+      second = refl;
+      one = refl;
+      zero-at-most = refl;
+      guard-zero = refl;
+      greater = refl;
+      at-least = refl;
+      equal = refl;
+      parted = refl;
+      large = refl;
+      largest = refl;
+    }

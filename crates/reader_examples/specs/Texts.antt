@@ -1,4 +1,4 @@
--- The five posts (SPECIFICATION 16.1), byte by byte.
+-- The six posts (SPECIFICATION 16.1), byte by byte.
 use mathlib.Core.List.{List, [], _∷_, _++_}
 use Prim.Native.Nat.{ℕ}
 use Prim.Native.Char.{code}
@@ -10,61 +10,55 @@ abbrev pub lines : List String → List ℕ
 lines [] = []
 lines (l ∷ ls) = bytes l ++ (code "\n" ∷ lines ls)
 
-abbrev pub post : List ℕ
-post =
+-- what Post and three others have in common: the locations, the edge of `spike` from Wait and that of `late` differ
+abbrev marker : String → String → String → List ℕ
+marker locations spike late =
     lines
     ("broadcast chan pass, spike, late;"
     ∷ "process Post() {"
     ∷ "clock x;"
-    ∷ "state Wait { x <= 3 }, Done;"
+    ∷ locations
     ∷ "init Wait;"
     ∷ "trans"
     ∷ "Wait -> Done { sync pass?; },"
-    ∷ "Wait -> Wait { sync spike?; },"
-    ∷ "Wait -> Done { guard x >= 3; sync late!; },"
+    ∷ spike
+    ∷ late
     ∷ "Done -> Done { sync pass?; },"
     ∷ "Done -> Done { sync spike?; };"
     ∷ "}"
     ∷ "system Post;"
     ∷ [])
+
+abbrev pub post : List ℕ
+post =
+    marker
+    "state Wait { x <= 3 }, Done;"
+    "Wait -> Wait { sync spike?; },"
+    "Wait -> Done { guard x >= 3; sync late!; },"
 
 -- a spike sets the clock back: the second edge has a reset (SPECIFICATION 16.1)
 abbrev pub rearm : List ℕ
 rearm =
-    lines
-    ("broadcast chan pass, spike, late;"
-    ∷ "process Post() {"
-    ∷ "clock x;"
-    ∷ "state Wait { x <= 3 }, Done;"
-    ∷ "init Wait;"
-    ∷ "trans"
-    ∷ "Wait -> Done { sync pass?; },"
-    ∷ "Wait -> Wait { sync spike?; assign x = 0; },"
-    ∷ "Wait -> Done { guard x >= 3; sync late!; },"
-    ∷ "Done -> Done { sync pass?; },"
-    ∷ "Done -> Done { sync spike?; };"
-    ∷ "}"
-    ∷ "system Post;"
-    ∷ [])
+    marker
+    "state Wait { x <= 3 }, Done;"
+    "Wait -> Wait { sync spike?; assign x = 0; },"
+    "Wait -> Done { guard x >= 3; sync late!; },"
 
 -- one tick earlier: both constants are 2 (SPECIFICATION 16.1)
 abbrev pub early : List ℕ
 early =
-    lines
-    ("broadcast chan pass, spike, late;"
-    ∷ "process Post() {"
-    ∷ "clock x;"
-    ∷ "state Wait { x <= 2 }, Done;"
-    ∷ "init Wait;"
-    ∷ "trans"
-    ∷ "Wait -> Done { sync pass?; },"
-    ∷ "Wait -> Wait { sync spike?; },"
-    ∷ "Wait -> Done { guard x >= 2; sync late!; },"
-    ∷ "Done -> Done { sync pass?; },"
-    ∷ "Done -> Done { sync spike?; };"
-    ∷ "}"
-    ∷ "system Post;"
-    ∷ [])
+    marker
+    "state Wait { x <= 2 }, Done;"
+    "Wait -> Wait { sync spike?; },"
+    "Wait -> Done { guard x >= 2; sync late!; },"
+
+-- strict signs: they say what those of Post say over whole ticks (SPECIFICATION 16.1, 16.6)
+abbrev pub strict : List ℕ
+strict =
+    marker
+    "state Wait { x < 4 }, Done;"
+    "Wait -> Wait { sync spike?; },"
+    "Wait -> Done { guard x > 2; sync late!; },"
 
 -- the third edge is left out (SPECIFICATION 16.1)
 abbrev pub hush : List ℕ

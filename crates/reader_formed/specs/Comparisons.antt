@@ -1,18 +1,21 @@
 -- A guard or an invariant that is read: its clocks are declared, its constants are allowed, and in an invariant every
--- sign is `<=`.
+-- sign is `<=`, or `<` before a constant above 0.
 use mathlib.Core.Path.{_≡_, refl, sym, _∙_}
 use mathlib.Core.Bool.{Bool, true, false}
 use mathlib.Core.List.{List}
 use Prim.Native.Nat.{ℕ, zero, suc, _+_, _≤_, _<_}
 use native.Mathlib.Omega.{arith}
-use lib.Dec.{eqb}
-use lib.ListN.{length, length-set}
+use lib.Dec.{T, eqb, ltb, lt→ltb}
+use lib.ListN.{length, drop, length-set}
+use borrow.Author.Tests.{ltb-false}
 use Rattle.reader_parts.specs.Slots.{first-clock}
 use Rattle.reader_tokens.specs.Kinds as kinds
+use Rattle.reader_tokens.specs.Scan.{numeral-value}
 use Rattle.reader_tokens.specs.Tokens.{token-at}
 use Rattle.reader_tokens.specs.declared.Token.{Token}
 use Rattle.reader_record.specs.declared.Name.{Name}
-use Rattle.reader_record.specs.declared.Sign.the-variants.{AtMost}
+use Rattle.reader_record.specs.declared.Sign.{Sign}
+use Rattle.reader_record.specs.Formed.{in-invariant}
 use Rattle.reader_record.specs.declared.Comparison.{Comparison}
 use Rattle.reader_record.specs.declared.Constraint.{Constraint}
 use Rattle.reader_record.specs.Record as record-of
@@ -24,7 +27,7 @@ use Rattle.reader_constraints.specs.declared.SignRead.{SignRead}
 use Rattle.reader_constraints.specs.declared.ComparisonRead.{ComparisonRead}
 use Rattle.reader_constraints.specs.declared.ConstraintRead.{ConstraintRead}
 use Rattle.reader_constraints.specs.Facts.{constant-small}
-use Rattle.reader_constraints.specs.Constraints.{constant, sign-of, sign-next, comparison-next, blank-constraint, with-comparison, constraint-from, constraint, optional}
+use Rattle.reader_constraints.specs.Constraints.{constant-of, constant, least-after, least-constant, sign-of, sign-next, comparison-next, blank-constraint, with-comparison, constraint-from, constraint, optional}
 use Rattle.reader_formed.specs.Cases.{split, either, never, stored}
 use Rattle.reader_formed.specs.Going.{Going, take-going}
 use Rattle.reader_formed.specs.Declared.{used}
@@ -32,29 +35,57 @@ use Rattle.reader_formed.specs.Slots.{Known, used-below}
 use Rattle.limits.specs.Limits.{clock-limit, comparison-limit, largest-constant}
 
 -- a constant that is read
-record Constant (st : Status) (a : Amount) : Type 0 where
+record Constant (least : ℕ) (st : Status) (a : Amount) : Type 0 where
   before : Going st
   bound : a .value ≤ largest-constant
+  enough : least ≤ a .value
 
-constant-read : (s : List ℕ) (st : Status) → Going (constant s st .status) → Constant st (constant s st)
+of-constant :
+    (least : ℕ) (s : List ℕ) (t : Token) → Going (constant-of least s t .status) → least ≤ constant-of least s t .value
+unfolding constant-of
+of-constant least s t =
+    split P (eqb (t .kind) kinds.numeral)
+    (λ _. split P (ltb largest-constant v)
+    (λ _ g. absurd g)
+    (λ _. split P (ltb v least) (λ _ g. absurd g) (λ e _. ltb-false v least e)))
+    (λ _ g. absurd g)
+  where
+    v : ℕ
+    v = numeral-value 0 (drop (t .place) s)
+
+    P : Amount → Type 0
+    P a = Going (a .status) → least ≤ a .value
+
+constant-read :
+    (least : ℕ) (s : List ℕ) (st : Status) → Going (constant least s st .status)
+    → Constant least st (constant least s st)
 unfolding constant
-constant-read s (At p) g = record { before = tt; bound = constant-small s (At p) }
-constant-read s (Refused f) g = absurd g
+constant-read least s (At p) g = record {
+  before = tt;
+  bound = constant-small least s (At p);
+  enough = of-constant least s (token-at s p) g;
+}
+constant-read least s (Refused f) g = absurd g
 
 -- a sign that is read
 record Signed (st : Status) (only : Bool) (r : SignRead) : Type 0 where
   before : Going st
-  sign : only ≡ true → r .sign ≡ AtMost
+  sign : only ≡ true → (b : ℕ) → least-after (r .sign) ≤ b → T (in-invariant (r .sign) b)
 
-of-sign : (only : Bool) (t : Token) → Going (sign-of only t .status) → only ≡ true → sign-of only t .sign ≡ AtMost
-unfolding sign-of
+-- a sign of an invariant, before a constant that may stand after it
+of-sign :
+    (only : Bool) (t : Token) → Going (sign-of only t .status) → only ≡ true → (b : ℕ)
+    → least-after (sign-of only t .sign) ≤ b → T (in-invariant (sign-of only t .sign) b)
+unfolding sign-of least-after in-invariant
 of-sign only t =
     split P (eqb (t .kind) kinds.at-most)
-    (λ _ g o. refl)
-    (λ _. split P only (λ _ g. absurd g) (λ e g o. never (sym o ∙ e)))
+    (λ _ g o b h. tt)
+    (λ _. split P (eqb (t .kind) kinds.less)
+    (λ _ g o b h. lt→ltb 0 b h)
+    (λ _. split P only (λ _ g. absurd g) (λ e g o. never (sym o ∙ e))))
   where
     P : SignRead → Type 0
-    P r = Going (r .status) → only ≡ true → r .sign ≡ AtMost
+    P r = Going (r .status) → only ≡ true → (b : ℕ) → least-after (r .sign) ≤ b → T (in-invariant (r .sign) b)
 
 sign-read :
     (s : List ℕ) (st : Status) (only : Bool) → Going (sign-next s st only .status)
@@ -63,11 +94,17 @@ unfolding sign-next
 sign-read s (At p) only g = record { before = tt; sign = of-sign only (token-at s p) g }
 sign-read s (Refused f) only g = absurd g
 
--- a comparison in a text with so many clocks; `only`: `<=` is the only sign
+-- a comparison in a text with so many clocks; `only`: it has only what an invariant may have
 pub record Formed-comparison (clocks : ℕ) (only : Bool) (x : Comparison) : Type 0 where
   pub clock : x .clock < clocks
   pub bound : x .bound ≤ largest-constant
-  pub sign : only ≡ true → x .sign ≡ AtMost
+  pub sign : only ≡ true → T (in-invariant (x .sign) (x .bound))
+
+-- in an invariant the least constant is the sign's
+least-invariant : (only : Bool) (o : Sign) (b : ℕ) → only ≡ true → least-constant only o ≤ b → least-after o ≤ b
+unfolding least-constant
+least-invariant true o b e h = h
+least-invariant false o b e h = never (sym e)
 
 module _ (s : List ℕ) (names : List Name) (only : Bool) where
   pub record Compared (st : Status) (x : ComparisonRead) : Type 0 where
@@ -80,7 +117,7 @@ module _ (s : List ℕ) (names : List Name) (only : Bool) where
       → Compared st (comparison-next s st names only over)
   unfolding comparison-next
   compared st over g =
-      let c = constant-read s _ g in
+      let c = constant-read _ s _ g in
       let i = sign-read s _ only (c .before) in
       let u = used s names first-clock clock-limit (omega arith) over st (i .before) in
       record {
@@ -88,7 +125,7 @@ module _ (s : List ℕ) (names : List Name) (only : Bool) where
         formed = λ n k. record {
           clock = used-below s st names first-clock clock-limit n _ u k;
           bound = c .bound;
-          sign = i .sign;
+          sign = λ o. i .sign o _ (least-invariant only _ _ o (c .enough));
         };
       }
 

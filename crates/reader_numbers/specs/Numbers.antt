@@ -9,7 +9,7 @@ use Rattle.reader_record.specs.declared.Direction.{Direction}
 use Rattle.reader_record.specs.declared.Direction.the-variants as direction
 use Rattle.reader_record.specs.declared.Channel.{Channel}
 use Rattle.reader_record.specs.declared.Sign.{Sign}
-use Rattle.reader_record.specs.declared.Sign.the-variants.{AtMost, AtLeast, Equal}
+use Rattle.reader_record.specs.declared.Sign.the-variants.{AtMost, AtLeast, Equal, Less, Greater}
 use Rattle.reader_record.specs.declared.Comparison.{Comparison}
 use Rattle.reader_record.specs.declared.Constraint.{Constraint}
 use Rattle.reader_record.specs.declared.Location.{Location}
@@ -34,6 +34,8 @@ unfoldable pub sign-number : Sign → ℕ
 sign-number AtMost = 0
 sign-number AtLeast = 1
 sign-number Equal = 2
+sign-number Less = 3
+sign-number Greater = 4
 
 unfoldable pub direction-number : Direction → ℕ
 direction-number direction.Unused = 0

@@ -97,6 +97,8 @@ fn sign_number(s: Sign) -> usize
         Sign::AtMost => 0,
         Sign::AtLeast => 1,
         Sign::Equal => 2,
+        Sign::Less => 3,
+        Sign::Greater => 4,
     }
 }
 

@@ -48,6 +48,8 @@ fn sign(s: Sign) {
         Sign::AtMost => io::write_all(1, b" <="),
         Sign::AtLeast => io::write_all(1, b" >="),
         Sign::Equal => io::write_all(1, b" =="),
+        Sign::Less => io::write_all(1, b" <"),
+        Sign::Greater => io::write_all(1, b" >"),
     }
     ;
 }

@@ -4,13 +4,14 @@
 use mathlib.Core.Path.{_≡_}
 use mathlib.Core.Bool.{Bool, true, false}
 use Prim.Native.Nat.{ℕ, _≤_, _<_}
-use lib.Dec.{T}
+use lib.Dec.{T, ltb}
 use lib.ListN.{getD}
 use Rattle.reader_record.specs.declared.Direction.{Direction}
 use Rattle.reader_record.specs.declared.Direction.the-variants.{Unused, Input as In, Output as Out}
 use Rattle.reader_record.specs.declared.Label.{Label}
 use Rattle.reader_record.specs.declared.Label.the-variants.{Input, Output}
-use Rattle.reader_record.specs.declared.Sign.the-variants.{AtMost}
+use Rattle.reader_record.specs.declared.Sign.{Sign}
+use Rattle.reader_record.specs.declared.Sign.the-variants.{AtMost, AtLeast, Equal, Less, Greater}
 use Rattle.reader_record.specs.declared.Constraint.{Constraint}
 use Rattle.reader_record.specs.declared.Text.{Text}
 use Rattle.reader_record.specs.Record.{direction-of, comparison, edge, invariant-of, channel}
@@ -24,6 +25,14 @@ agrees (Input c) Out = false
 agrees (Output c) Unused = false
 agrees (Output c) In = false
 agrees (Output c) Out = true
+
+-- an invariant may compare by the sign with the constant: by `<=`, or by `<` with one above 0 (SPECIFICATION 3.2)
+unfoldable pub in-invariant : Sign → ℕ → Bool
+in-invariant AtMost b = true
+in-invariant AtLeast b = false
+in-invariant Equal b = false
+in-invariant Less b = ltb 0 b
+in-invariant Greater b = false
 
 -- a guard or an invariant in a text with so many clocks (SPECIFICATION 3.5, 4.3)
 pub record Formed-constraint (clocks : ℕ) (g : Constraint) : Type 0 where
@@ -39,10 +48,10 @@ pub record Well-formed (t : Text) : Type 0 where
   pub edges : t .«edge_count» ≤ edge-limit
   -- the start is a declared location (SPECIFICATION 3.5)
   pub init : t .init < t .«location_count»
-  -- an invariant compares declared clocks with allowed constants, by `<=` alone (SPECIFICATION 3.2)
+  -- an invariant compares declared clocks with allowed constants, by `<=` and `<` alone (SPECIFICATION 3.2)
   pub invariant : (l : ℕ) → l < t .«location_count» → Formed-constraint (t .«clock_count») (invariant-of t l)
-  pub at-most : (l i : ℕ) → l < t .«location_count» → i < invariant-of t l .count
-      → comparison (invariant-of t l) i .sign ≡ AtMost
+  pub upper : (l i : ℕ) → l < t .«location_count» → i < invariant-of t l .count
+      → T (in-invariant (comparison (invariant-of t l) i .sign) (comparison (invariant-of t l) i .bound))
   -- a guard compares declared clocks with allowed constants
   pub guard : (i : ℕ) → i < t .«edge_count» → Formed-constraint (t .«clock_count») (edge t i .guard)
   -- an edge leads from a declared location to a declared location (SPECIFICATION 3.5)

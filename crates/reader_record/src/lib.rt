@@ -24,11 +24,13 @@ pub struct Channel {
     pub direction: Direction,
 }
 
-// The sign of a comparison (SPECIFICATION 3.1): `<=`, `>=` or `==`.
+// The sign of a comparison (SPECIFICATION 3.1): `<=`, `>=`, `==`, `<` or `>`.
 pub enum Sign {
     AtMost,
     AtLeast,
     Equal,
+    Less,
+    Greater,
 }
 
 // A clock, by its number from 0, a sign and a constant (SPECIFICATION 5.3). A record is passed by value and holds

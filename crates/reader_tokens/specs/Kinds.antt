@@ -85,6 +85,12 @@ output = code "!"
 abbrev pub becomes : ℕ
 becomes = code "="
 
+abbrev pub less : ℕ
+less = code "<"
+
+abbrev pub greater : ℕ
+greater = code ">"
+
 abbrev pub pair : ℕ → ℕ → ℕ
 pair a b = byte-values * a + b
 

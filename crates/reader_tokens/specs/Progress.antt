@@ -8,9 +8,9 @@ use lib.Dec.{eqb, ltb}
 use lib.ListN.{length, drop, getD, length-drop, List·getD-eq-default}
 use lib.Seq.{drop-cons}
 use borrow.Author.Tests.{ltb-true, ltb-false, lt-ltb, eqb-true}
-use Rattle.reader_tokens.specs.Scan.{bytes, member, is-space, is-letter, is-digit, is-part, run, past}
+use Rattle.reader_tokens.specs.Scan.{member, is-space, is-letter, is-digit, is-part, run, past}
 use Rattle.reader_tokens.specs.Kinds.{byte-values, end, stray}
-use Rattle.reader_tokens.specs.Tokens.{is-pair, is-single, mark-kind, mark-length, mark-at, word-at, token-from, token-at}
+use Rattle.reader_tokens.specs.Tokens.{is-pair, singles, is-single, mark-kind, mark-length, mark-at, word-at, token-from, token-at}
 use Rattle.reader_tokens.specs.declared.Token.{Token}
 
 -- the token t, looked for at or after p, ends after p and within the text
@@ -56,7 +56,7 @@ member-most a (k ∷ ks) e = by (eqb a k) refl (λ h. member-most a ks h)
 
 single-small : (a : ℕ) → is-single a ≡ true → a < byte-values
 unfolding is-single largest
-single-small a h = omega (arith, member-most a (bytes ",;{}()?!=") h)
+single-small a h = omega (arith, member-most a singles h)
 
 -- a mark before no byte, which is read as 0, has one byte
 mark-alone : (a : ℕ) → mark-length (mark-kind a 0) ≡ 1

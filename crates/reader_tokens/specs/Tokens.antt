@@ -50,8 +50,11 @@ unfoldable pub is-pair : ℕ → ℕ → Bool
 is-pair a b = are "-" ">" a b || (are "<" "=" a b || (are ">" "=" a b || (are "=" "=" a b || are "&" "&" a b)))
 
 -- the marks of one byte (SPECIFICATION 2.2)
+abbrev pub singles : List ℕ
+singles = bytes ",;{}()?!=<>"
+
 unfoldable pub is-single : ℕ → Bool
-is-single a = member a (bytes ",;{}()?!=")
+is-single a = member a singles
 
 -- the kind of the mark that starts with the byte a, before the byte b: two bytes before one (SPECIFICATION 2.4, 2.5)
 unfoldable pub mark-kind : ℕ → ℕ → ℕ

@@ -62,6 +62,10 @@ pub const OUTPUT: usize = b'!' as usize;
 
 pub const BECOMES: usize = b'=' as usize;
 
+pub const LESS: usize = b'<' as usize;
+
+pub const GREATER: usize = b'>' as usize;
+
 pub const ARROW: usize = BYTE_VALUES * b'-' as usize + b'>' as usize;
 
 pub const AT_MOST: usize = BYTE_VALUES * b'<' as usize + b'=' as usize;
@@ -241,7 +245,7 @@ fn word_kind(s: &[u8], p: usize, n: usize) -> usize
 fn is_single(a: u8) -> bool
     ensures { λ r. ⌜ r ≡ is-single a ⌝ }
 {
-    is_among(a, b",;{}()?!=")
+    is_among(a, b",;{}()?!=<>")
 }
 
 // The marks of two bytes.

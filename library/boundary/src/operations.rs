@@ -1,9 +1,13 @@
-//! The operations on two texts, whoever carries them out.
+//! The five operations, whoever carries them out.
 
 use crate::Returned;
 use plain::Refusal;
 
 pub trait Operations {
+    fn read(&self, text: &[u8], record: &mut [usize]) -> Returned;
+
+    fn safe_states(&self, text: &[u8], keep: &mut [u8]) -> Returned;
+
     fn search(
         &self,
         left: &[u8],
@@ -43,6 +47,18 @@ fn pairs_and_start(widest: plain::Widest) -> (usize, usize) {
 }
 
 impl Operations for ByPairs {
+    fn read(&self, text: &[u8], record: &mut [usize]) -> Returned {
+        let answer = plain::read(text);
+        if let Ok(read) = &answer {
+            read.write(record);
+        }
+        Returned::plainly(answer, |read| (read.states, 0))
+    }
+
+    fn safe_states(&self, text: &[u8], keep: &mut [u8]) -> Returned {
+        Returned::plainly(plain::safe_states(text, keep), |safe| (safe.count, usize::from(safe.start)))
+    }
+
     fn search(
         &self,
         left: &[u8],
@@ -64,8 +80,16 @@ impl Operations for ByPairs {
     }
 }
 
+/// Only the widest table and its check go by rows; the others are the same as by pairs.
 impl Operations for ByRows {
-    /// The search knows no rows.
+    fn read(&self, text: &[u8], record: &mut [usize]) -> Returned {
+        ByPairs.read(text, record)
+    }
+
+    fn safe_states(&self, text: &[u8], keep: &mut [u8]) -> Returned {
+        ByPairs.safe_states(text, keep)
+    }
+
     fn search(
         &self,
         left: &[u8],

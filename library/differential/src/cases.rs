@@ -1,7 +1,7 @@
 //! What one call is given: texts, lengths of the lent slices, a table.
 
 use texts::kinds::{departing, texts, Kind, KINDS};
-use texts::{at_a_limit, damaged, early, hush, idle, noise, post, rearm, Model, Random};
+use texts::{at_a_limit, damaged, early, hush, idle, noise, post, rearm, strict, Model, Random};
 
 /// Larger products are only tried with slices too short for them, to keep the run short.
 const PAIRS_LIMIT: usize = 520_000;
@@ -16,7 +16,7 @@ pub fn text(random: &mut Random) -> Vec<u8> {
         50..=74 => damaged(random),
         75..=89 => at_a_limit(random),
         90..=93 => noise(random),
-        _ => random.pick(&[post(), rearm(), early(), hush(), idle()]).clone(),
+        _ => random.pick(&[post(), rearm(), early(), hush(), idle(), strict()]).clone(),
     }
 }
 

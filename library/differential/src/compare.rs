@@ -2,7 +2,7 @@
 //! writes compared.
 
 use crate::cases;
-use boundary::{Build, Operations, Returned};
+use boundary::{Build, ByPairs, Operations, Returned};
 use plain::codes::RUN_TOO_SHORT;
 use std::fmt::Debug;
 use texts::Random;
@@ -82,7 +82,7 @@ pub fn read(random: &mut Random) -> Made {
     let mut library = Lent::new(random, length, |number| number as usize);
     let before = library.clone();
     let answer = plain::read(&text);
-    let returned = boundary::read(&text, library.slice());
+    let returned = Build::LINKED.read(&text, library.slice());
     let lengths = format!("record {length}");
     let plainly = Returned::plainly(answer.as_ref().map_err(|refusal| *refusal), |record| (record.states, 0));
     let mut made = Made::new(returned, plainly, vec![("text", text)], lengths);
@@ -114,10 +114,9 @@ pub fn safe_states(random: &mut Random) -> Made {
     let length = cases::length(random, states.div_ceil(8));
     let mut library = lent_bytes(random, length);
     let mut plain = library.clone();
-    let returned = boundary::safe_states(&text, library.slice());
-    let answer = plain::safe_states(&text, plain.slice());
-    let plainly = Returned::plainly(answer, |safe| (safe.count, usize::from(safe.start)));
-    let mut made = Made::new(returned, plainly, vec![("text", text)], format!("keep {length}"));
+    let returned = Build::LINKED.safe_states(&text, library.slice());
+    let answer = ByPairs.safe_states(&text, plain.slice());
+    let mut made = Made::new(returned, answer, vec![("text", text)], format!("keep {length}"));
     made.compare_lent("keep", &library, &plain);
     made
 }

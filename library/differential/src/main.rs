@@ -6,6 +6,7 @@
 //!
 //! With the word `before` the library is compared with an older build of it instead, a shared object that
 //! MEGZHOI_BEFORE names, on pairs of texts by kind and random ones; MEGZHOI_PAIRS is their number (4,000).
+//! MEGZHOI_STRICT=0 passes over pairs with a strict sign, for an older build that does not read it.
 
 #![forbid(unsafe_code)]
 
@@ -118,6 +119,16 @@ fn run() -> ExitCode {
     ExitCode::SUCCESS
 }
 
+/// Whether the bytes have a strict sign: a `<` or `>` that is no part of `<=`, `>=` or `->`.
+fn has_strict_sign(text: &[u8]) -> bool {
+    let is_sign = |i: usize| match text[i] {
+        b'<' => text.get(i + 1) != Some(&b'='),
+        b'>' => text.get(i + 1) != Some(&b'=') && (i == 0 || text[i - 1] != b'-'),
+        _ => false,
+    };
+    (0..text.len()).any(is_sign)
+}
+
 /// The linked library and an older build on pairs by kind and, every fourth, on random ones.
 fn run_before() -> ExitCode {
     let Some(before) = Build::before() else {
@@ -125,10 +136,16 @@ fn run_before() -> ExitCode {
         return ExitCode::FAILURE;
     };
     let (pairs, first) = (number("MEGZHOI_PAIRS", 4_000), number("MEGZHOI_SEED", 1));
+    let strict = number("MEGZHOI_STRICT", 1) != 0;
     let mut counts: Counts = Default::default();
+    let mut passed_over = 0;
     for seed in (0..pairs).map(|i| first.wrapping_add(i)) {
         let random = &mut random_of(seed);
         let texts = if random.chance(75) { cases::two_of_a_kind(random) } else { cases::two_texts(random) };
+        if !strict && (has_strict_sign(&texts.0) || has_strict_sign(&texts.1)) {
+            passed_over += 1;
+            continue;
+        }
         for (operation, call) in ON_A_PAIR {
             if !agrees(&mut counts, operation, || call(random, &before, texts.clone())) {
                 println!("repeat with MEGZHOI_SEED={seed} MEGZHOI_PAIRS=1");
@@ -137,7 +154,8 @@ fn run_before() -> ExitCode {
         }
     }
     print_counts(&counts);
-    println!("{pairs} pairs of texts from seed {first}: no difference from the older build");
+    let compared = pairs - passed_over;
+    println!("{compared} pairs of texts from seed {first}: no difference from the older build");
     ExitCode::SUCCESS
 }
 

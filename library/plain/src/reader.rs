@@ -268,7 +268,7 @@ impl<'a> Reader<'a> {
         }
     }
 
-    /// A list of comparisons; an invariant has `<=` only.
+    /// A list of comparisons; an invariant has `<` and `<=` only, and no 0 after `<` (SPECIFICATION 3.2).
     fn comparisons(&mut self, in_guard: bool) -> Read<Comparisons> {
         let mut list = Comparisons::none();
         loop {
@@ -278,7 +278,11 @@ impl<'a> Reader<'a> {
                 return fault(codes::TOO_MANY_ITEMS, place);
             }
             let sign = self.sign(in_guard)?;
+            let place = self.token.start;
             let bound = self.bound()?;
+            if !in_guard && sign == Sign::Less && bound == 0 {
+                return fault(codes::MISFIT, place);
+            }
             list.push(Comparison { clock, sign, bound });
             if !self.take(Kind::And) {
                 return Ok(list);
@@ -289,6 +293,8 @@ impl<'a> Reader<'a> {
     fn sign(&mut self, in_guard: bool) -> Read<Sign> {
         let sign = match self.token.kind {
             Kind::AtMost => Sign::AtMost,
+            Kind::Less => Sign::Less,
+            Kind::Greater if in_guard => Sign::Greater,
             Kind::AtLeast if in_guard => Sign::AtLeast,
             Kind::Equal if in_guard => Sign::Equal,
             _ => return self.misfit(),

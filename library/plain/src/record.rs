@@ -49,11 +49,14 @@ impl Channel {
     }
 }
 
+/// In the order of their numbers (SPECIFICATION 15.2): `<=`, `>=`, `==`, `<`, `>`.
 #[derive(Clone, Copy, Debug, PartialEq, Eq)]
 pub enum Sign {
     AtMost,
     AtLeast,
     Equal,
+    Less,
+    Greater,
 }
 
 #[derive(Clone, Copy, Debug, PartialEq, Eq)]

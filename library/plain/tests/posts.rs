@@ -1,7 +1,7 @@
 //! The posts, with the numbers of SPECIFICATION 16.
 
-use plain::{check, read, safe_states, search, widest, Refusal, Safe, Widest};
-use texts::{early, hush, idle, post, rearm};
+use plain::{check, read, safe_states, search, widest, Refusal, Safe, Sign, Widest};
+use texts::{early, hush, idle, post, rearm, strict};
 
 fn refused(code: usize, file: usize, p: usize, q: usize) -> Refusal {
     Refusal { code, file, p, q }
@@ -38,6 +38,37 @@ fn post_has_10_states_9_safe() {
 fn hush_has_5_safe_and_is_refused_as_left() {
     assert_eq!(safe_states(&hush(), &mut [0; 2]), Ok(Safe { count: 5, start: false }));
     assert_eq!(departure(&hush(), &post()), Err(refused(17, 1, 0, 0)));
+}
+
+#[test]
+fn strict_has_12_states_10_safe() {
+    let record = read(&strict()).unwrap();
+    let signs = [record.locations[0].invariant, record.edges[2].guard].map(|list| list.as_slice()[0].sign);
+    assert_eq!((record.states, signs), (12, [Sign::Less, Sign::Greater]));
+    let mut keep = [0; 2];
+    assert_eq!(safe_states(&strict(), &mut keep), Ok(Safe { count: 10, start: true }));
+    assert_eq!(keep, [0b1111_0011, 0b1111_0000]);
+}
+
+#[test]
+fn strict_and_post_refine_each_other() {
+    for (left, right, bytes) in [(strict(), post(), 33), (post(), strict(), 29)] {
+        assert_eq!(departure(&left, &right), Ok(vec![]));
+        let mut table = vec![0; bytes];
+        let answer = widest(&left, &right, &mut [0; 2], &mut table).unwrap();
+        assert_eq!(answer, Widest { pairs: 34, start: true });
+        assert_eq!(check(&left, &right, &mut [0; 2], &table), Ok(34));
+    }
+}
+
+#[test]
+fn strict_signs_in_the_invariant() {
+    let place = String::from_utf8(post()).unwrap().find("x <= 3").unwrap();
+    assert_eq!(read(&with("x <= 3", "x < 0")), Err(refused(2, 1, place + 4, 0)));
+    assert_eq!(read(&with("x <= 3", "x < 00")), Err(refused(2, 1, place + 4, 0)));
+    assert_eq!(read(&with("x <= 3", "x > 3")), Err(refused(2, 1, place + 2, 0)));
+    assert_eq!(read(&with("x <= 3", "x < = 3")), Err(refused(2, 1, place + 4, 0)));
+    assert_eq!(read(&with("x <= 3", "x < 1")).unwrap().states, 10);
 }
 
 #[test]

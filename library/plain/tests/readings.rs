@@ -19,6 +19,10 @@ fn with_guard(guard: &str) -> String {
     with_edges(&format!("L -> L {{ guard {guard}; sync a!; }}"))
 }
 
+fn with_invariant(invariant: &str) -> String {
+    format!("process P() {{ clock x; state L {{ {invariant} }}; init L; }} system P;\n")
+}
+
 fn with_assign(assign: &str) -> String {
     with_edges(&format!("L -> L {{ sync a!; assign {assign}; }}"))
 }
@@ -32,7 +36,7 @@ fn tokens() {
     judged(2, "#-");
     judged(2, &with_edges("L #- > L { sync a!; }"));
     judged(2, &with_edges("L ->#> L { sync a!; }"));
-    judged(2, &with_guard("x #< = 3"));
+    judged(2, &with_guard("x < #= 3"));
     judged(2, &with_guard("x <= 3 #& & x <= 3"));
     judged(2, &with_guard("x <= 3#x"));
     judged(2, &with_guard("x ==#= 3"));
@@ -59,6 +63,66 @@ fn numerals() {
     judged(2, &with_assign("x = #1"));
     judged(2, &with_assign("x = #5000"));
     judged(2, "process P() { clock x; state L { x #>= 3 }; init L; } system P;");
+}
+
+#[test]
+fn strict_signs() {
+    for sign in ["<", ">", "<=", ">=", "=="] {
+        judged(0, &with_guard(&format!("x {sign} 0")));
+        judged(0, &with_guard(&format!("x{sign}1000")));
+        judged(6, &with_guard(&format!("x {sign} #1001")));
+    }
+    judged(0, &with_invariant("x < 1 && x<=0 && x < 1000 && x < 01"));
+    for sign in [">", ">=", "==", "="] {
+        judged(2, &with_invariant(&format!("x #{sign} 3")));
+    }
+    for zero in ["0", "00", "000000000000000000000"] {
+        judged(2, &with_invariant(&format!("x < #{zero}")));
+        judged(2, &with_invariant(&format!("x <= {zero} && x < #{zero} && x < 2")));
+    }
+    judged(6, &with_invariant("x < #1001"));
+    judged(7, &with_invariant("x < 1 && x < 2 && x < 3 && x < 4 && #x < 0"));
+    judged(2, &with_guard("x <#< 3"));
+    judged(2, &with_guard("x <#> 3"));
+    judged(2, &with_guard("x >#> 3"));
+    judged(2, &with_guard("x >=#= 3"));
+    judged(2, &with_guard("x > #= 3"));
+    judged(2, &with_guard("x #=< 3"));
+    judged(2, &with_edges("L ->#= L { sync a!; }"));
+    judged(2, &with_edges("L #> L { sync a!; }"));
+    judged(2, &with_assign("x #< 0"));
+    judged(2, "process P() { clock x; state L { x < #");
+}
+
+#[test]
+fn strict_constants_count_as_written() {
+    for (guard, states) in [("x < 5", 7), ("x > 5", 7), ("x < 0", 2), ("x > 0", 2), ("x <= 4 && x < 5", 7)] {
+        assert_eq!(read(with_guard(guard).as_bytes()).unwrap().states, states, "{guard}");
+    }
+    assert_eq!(read(with_invariant("x < 5").as_bytes()).unwrap().states, 7);
+}
+
+/// Code and state for an input that has an edge by each of the guards (an empty one: no guard).
+#[test]
+fn strict_guards_of_an_input() {
+    let edge = |guard: &&str| match guard.is_empty() {
+        true => "L -> L { sync a?; }".to_string(),
+        false => format!("L -> L {{ guard {guard}; sync a?; }}"),
+    };
+    let judged = |guards: &[&str]| {
+        let edges: Vec<String> = guards.iter().map(edge).collect();
+        read(with_edges(&edges.join(", ")).as_bytes()).err().map(|refusal| (refusal.code, refusal.p, refusal.q))
+    };
+    assert_eq!(judged(&["x < 3", "x >= 3"]), None);
+    assert_eq!(judged(&["x <= 3", "x > 3"]), None);
+    assert_eq!(judged(&["x < 3", "x == 3", "x > 3"]), None);
+    assert_eq!(judged(&["x < 0", ""]), None);
+    assert_eq!(judged(&["x < 0"]), Some((10, 0, 1)));
+    assert_eq!(judged(&["x < 3"]), Some((10, 3, 1)));
+    assert_eq!(judged(&["x < 3", "x > 3"]), Some((10, 3, 1)));
+    assert_eq!(judged(&["x <= 3", "x > 2"]), Some((11, 3, 1)));
+    assert_eq!(judged(&["x < 4", "x >= 3"]), Some((11, 3, 1)));
+    assert_eq!(judged(&["x < 3", "x >= 3", "x > 3"]), Some((11, 4, 1)));
 }
 
 #[test]

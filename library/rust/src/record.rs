@@ -23,13 +23,15 @@ pub struct Channel {
     pub direction: Direction,
 }
 
-/// `<=`, `>=` or `==`.
+/// `<=`, `>=`, `==`, `<` or `>`.
 #[derive(Clone, Copy, Debug, PartialEq, Eq)]
 #[allow(missing_docs)]
 pub enum Sign {
     AtMost,
     AtLeast,
     Equal,
+    Less,
+    Greater,
 }
 
 /// A clock, numbered from 0, compared with a constant.
@@ -89,7 +91,9 @@ fn comparison(n: &[usize]) -> Comparison {
     let sign = match n[1] {
         0 => Sign::AtMost,
         1 => Sign::AtLeast,
-        _ => Sign::Equal,
+        2 => Sign::Equal,
+        3 => Sign::Less,
+        _ => Sign::Greater,
     };
     Comparison { clock: n[0], sign, bound: n[2] }
 }

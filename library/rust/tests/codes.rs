@@ -132,3 +132,16 @@ fn other_numbers() {
     let keep = between(&header, "#define MEGZHOI_KEEP_BYTES ", "\n").expect("a line");
     assert_eq!(keep.parse(), Ok(KEEP_BYTES));
 }
+
+/// The header's signs are those of the definitions (SPECIFICATION 15.2), a line `sign-number Less = 3` each.
+#[test]
+fn signs() {
+    let text = file("crates/reader_numbers/specs/Numbers.antt");
+    let item = |line: &str| {
+        let (name, number) = line.strip_prefix("sign-number ")?.split_once(" = ")?;
+        Some((in_capitals(name), number.parse().ok()?))
+    };
+    let defined: Vec<(String, usize)> = text.lines().filter_map(item).collect();
+    assert_eq!(defined.iter().map(|sign| sign.1).collect::<Vec<_>>(), [0, 1, 2, 3, 4]);
+    assert_eq!(enumerated("MEGZHOI_AT_MOST ="), defined);
+}

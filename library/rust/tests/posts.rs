@@ -30,6 +30,10 @@ fn early() -> String {
     changed(POST, "3", "2")
 }
 
+fn strict() -> String {
+    changed(&changed(POST, "x <= 3", "x < 4"), "x >= 3", "x > 2")
+}
+
 fn hush() -> String {
     changed(POST, "Wait -> Done { guard x >= 3; sync late!; },\n", "")
 }
@@ -87,6 +91,48 @@ fn record_of_post() {
     assert_eq!((late.guard.len(), late.guard[0].sign, late.guard[0].bound), (1, Sign::AtLeast, 3));
     assert_eq!(record.edges[4].label, Label::Input(2));
     assert_eq!(read(rearm().as_bytes()).unwrap().edges[1].resets, [true, false, false]);
+}
+
+#[test]
+fn signs() {
+    let guarded = |guard: &str| changed(POST, "x >= 3", guard);
+    let signs = |text: String| -> Vec<(Sign, usize)> {
+        let guard = &read(text.as_bytes()).unwrap().edges[2].guard;
+        guard.iter().map(|comparison| (comparison.sign, comparison.bound)).collect()
+    };
+    let four = [(Sign::Less, 9), (Sign::Greater, 1), (Sign::AtMost, 8), (Sign::AtLeast, 2)];
+    assert_eq!(signs(guarded("x < 9 && x > 1 && x <= 8 && x >= 2")), four);
+    assert_eq!(signs(guarded("x == 3 && x < 0")), [(Sign::Equal, 3), (Sign::Less, 0)]);
+    let record = read(strict().as_bytes()).unwrap();
+    let invariant = record.locations[0].invariant[0];
+    assert_eq!((invariant.clock, invariant.sign, invariant.bound, record.states), (0, Sign::Less, 4, 12));
+    assert_eq!(signs(strict()), [(Sign::Greater, 2)]);
+}
+
+#[test]
+fn strict_and_post() {
+    let safe = safe_states(strict().as_bytes(), &mut [0; 2]).unwrap();
+    assert_eq!((safe.count, safe.start), (10, true));
+    for (left, right, bytes) in [(strict(), POST.to_string(), 33), (POST.to_string(), strict(), 29)] {
+        assert_eq!(count(&left, &right), Ok(0));
+        let mut table = vec![0; bytes];
+        let answer = widest(left.as_bytes(), right.as_bytes(), &mut [0; 2], &mut table).unwrap();
+        assert_eq!((answer.pairs, answer.start), (34, true));
+        assert_eq!(check(left.as_bytes(), right.as_bytes(), &mut [0; 2], &table), Ok(34));
+    }
+    assert_eq!(departure(&strict(), &early()), Ok(vec![0, 0, 0]));
+    assert_eq!(departure(&early(), &strict()), Ok(vec![0, 0, 3]));
+}
+
+#[test]
+fn signs_of_an_invariant() {
+    let place = POST.find("x <= 3").unwrap();
+    let bounded = |invariant: &str| read(changed(POST, "x <= 3", invariant).as_bytes()).map(|record| record.states);
+    assert_eq!(bounded("x < 0"), refused(2, 1, place + 4, 0));
+    assert_eq!(bounded("x < 00"), refused(2, 1, place + 4, 0));
+    assert_eq!(bounded("x > 3"), refused(2, 1, place + 2, 0));
+    assert_eq!(bounded("x < = 3"), refused(2, 1, place + 4, 0));
+    assert_eq!(bounded("x < 1"), Ok(10));
 }
 
 #[test]

@@ -1,6 +1,6 @@
 //! The sizing helpers: what the operations ask for, and nothing where no text has so many states.
 use megzhoi::{keep_bytes, queue_entries, read, safe_states, search, table_bytes, widest, Code, Refusal, KEEP_BYTES};
-use texts::{drifting, early, post, rearm, scaled_post, Kind};
+use texts::{drifting, early, post, rearm, scaled_post, strict, Kind};
 
 const STATE_LIMIT: usize = 4096;
 
@@ -40,6 +40,8 @@ fn they_are_the_least() {
         (post(), post()),
         (rearm(), post()),
         (early(), post()),
+        (strict(), post()),
+        (post(), strict()),
         (scaled_post(10), post()),
         drifting(10, 4, Kind::Departing),
     ];

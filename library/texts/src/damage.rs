@@ -73,7 +73,7 @@ pub fn damaged(random: &mut Random) -> Vec<u8> {
     join(&tokens, random)
 }
 
-/// A fault in what the text says: a mark, a name, a constant or an edge too many or too few.
+/// A fault in what the text says: a mark, a name, a constant, a sign, or an edge too many or too few.
 fn misstate(random: &mut Random, model: &mut Model) {
     let names = names(model);
     let name = random.pick(&names).clone();
@@ -83,7 +83,7 @@ fn misstate(random: &mut Random, model: &mut Model) {
     }
     let count = model.edges.len();
     let i = random.below(count);
-    match random.below(9) {
+    match random.below(10) {
         0 => model.edges[i].input = !model.edges[i].input,
         1 => model.edges.insert(random.below(count), model.edges[i].clone()),
         2 => drop(model.edges.remove(i)),
@@ -92,6 +92,7 @@ fn misstate(random: &mut Random, model: &mut Model) {
         5 => model.process = name,
         6 => model.locations.push((name, Vec::new())),
         7 => model.clocks.insert(0, name),
+        8 => misfit_in_invariant(random, model),
         _ => over_the_constant(random, model),
     }
 }
@@ -102,6 +103,15 @@ fn names(model: &Model) -> Vec<String> {
     let locations = model.locations.iter().map(|location| &location.0);
     let declared = channels.chain(locations).chain(&model.clocks).cloned();
     declared.chain(["unknown".to_string(), "n".repeat(32)]).collect()
+}
+
+/// A 0 after `<`, or a sign that only guards have (SPECIFICATION 3.2).
+fn misfit_in_invariant(random: &mut Random, model: &mut Model) {
+    let i = random.below(model.locations.len());
+    if let Some(comparison) = model.locations[i].1.last_mut() {
+        comparison.sign = *random.pick(&["<", "<", ">", ">=", "=="]);
+        comparison.bound = 0;
+    }
 }
 
 fn over_the_constant(random: &mut Random, model: &mut Model) {

@@ -14,6 +14,6 @@ mod sized;
 pub use damage::{damaged, noise};
 pub use limits::at_a_limit;
 pub use model::{Comparison, Edge, Model};
-pub use posts::{early, hush, idle, post, rearm};
+pub use posts::{early, hush, idle, post, rearm, strict};
 pub use random::Random;
 pub use sized::{chain, drifting, full_of_edges, full_of_tokens, scaled_post, Kind};

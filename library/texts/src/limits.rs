@@ -1,6 +1,6 @@
 //! Texts just at a limit (SPECIFICATION 4.3) and just over it.
 
-use crate::model::{Comparison, Edge, Model};
+use crate::model::{Comparison, Edge, Model, INVARIANT_SIGNS, SIGNS};
 use crate::random::Random;
 
 /// A text at a limit chosen at random, or one over it.
@@ -14,9 +14,9 @@ pub fn at_a_limit(random: &mut Random) -> Vec<u8> {
         3 => model.clocks.extend((1..3 + over).map(|i| format!("y{i}"))),
         4 => model.locations.extend((1..32 + over).map(|i| (format!("M{i}"), Vec::new()))),
         5 => model.edges = (0..128 + over).map(|i| output("==", i)).collect(),
-        6 => model.locations[0].1 = vec![comparison("<=", 3); 4 + over],
-        7 => model.edges[0].guard = vec![comparison(">=", 3); 4 + over],
-        8 => model.edges[0].guard = vec![comparison("<=", 1_000 + over)],
+        6 => model.locations[0].1 = vec![comparison(*random.pick(&INVARIANT_SIGNS), 3); 4 + over],
+        7 => model.edges[0].guard = vec![comparison(*random.pick(&SIGNS), 3); 4 + over],
+        8 => model.edges[0].guard = vec![comparison(*random.pick(&SIGNS), 1_000 + over)],
         _ => many_states(random, &mut model),
     }
     if random.chance(25) {
@@ -111,7 +111,7 @@ fn many_states(random: &mut Random, model: &mut Model) {
             1 => least.min(1_000),
             _ => least.min(1_002) - 2,
         };
-        model.edges[0].guard.push(Comparison { clock, sign: "<=", bound });
+        model.edges[0].guard.push(Comparison { clock, sign: *random.pick(&SIGNS), bound });
     }
     model.edges[0].guard.truncate(4);
 }

@@ -30,7 +30,21 @@ pub struct Model {
     pub edges: Vec<Edge>,
 }
 
-const SIGNS: [&str; 3] = ["<=", ">=", "=="];
+pub const SIGNS: [&str; 5] = ["<=", ">=", "==", "<", ">"];
+pub const INVARIANT_SIGNS: [&str; 2] = ["<=", "<"];
+
+impl Comparison {
+    /// Says the same over whole ticks by the other sign, strict or not, where there is one.
+    fn restate(&mut self) {
+        (self.sign, self.bound) = match (self.sign, self.bound) {
+            ("<=", bound) => ("<", bound + 1),
+            (">=", bound) if bound > 0 => (">", bound - 1),
+            ("<", bound) if bound > 0 => ("<=", bound - 1),
+            (">", bound) => (">=", bound + 1),
+            as_it_was => as_it_was,
+        };
+    }
+}
 
 impl Model {
     /// A random model of at most `locations` locations with small constants, whose inputs are complete
@@ -55,7 +69,7 @@ impl Model {
         };
         for i in 0..count {
             if random.chance(40) {
-                model.locations[i].1 = model.comparisons(random, 2, &["<="]);
+                model.locations[i].1 = model.invariant(random, 2);
             }
         }
         for i in 0..count {
@@ -82,6 +96,13 @@ impl Model {
         (0..count).map(|_| one(random)).collect()
     }
 
+    /// Comparisons of an invariant: none has a 0 after `<` (SPECIFICATION 3.2).
+    fn invariant(&self, random: &mut Random, most: usize) -> Vec<Comparison> {
+        let mut invariant = self.comparisons(random, most, &INVARIANT_SIGNS);
+        invariant.iter_mut().filter(|comparison| comparison.sign == "<").for_each(|c| c.bound = c.bound.max(1));
+        invariant
+    }
+
     fn add_edges(&mut self, random: &mut Random, location: usize) {
         for (channel, input) in self.channels.clone() {
             if !input && random.chance(40) {
@@ -104,8 +125,13 @@ impl Model {
             return vec![Vec::new()];
         }
         let (clock, bound) = (random.pick(&self.clocks).clone(), random.between(0, self.top() - 1));
-        let below = Comparison { clock: clock.clone(), sign: "<=", bound };
-        let above = Comparison { clock, sign: ">=", bound: bound + 1 };
+        let mut below = Comparison { clock: clock.clone(), sign: "<=", bound };
+        let mut above = Comparison { clock, sign: ">=", bound: bound + 1 };
+        for comparison in [&mut below, &mut above] {
+            if random.chance(50) {
+                comparison.restate();
+            }
+        }
         vec![vec![below], vec![above]]
     }
 
@@ -132,7 +158,7 @@ impl Model {
         Edge { source, target, guard, channel: channel.to_string(), input, resets }
     }
 
-    /// A model near this one: a constant, an edge, an invariant or a reset differs, or only the order.
+    /// A model near this one: a constant, an edge, an invariant or a reset differs, or only the order or the signs.
     pub fn varied(&self, random: &mut Random) -> Model {
         let mut model = self.clone();
         for _ in 0..random.between(1, 4) {
@@ -152,7 +178,7 @@ impl Model {
 
     fn vary(&mut self, random: &mut Random) {
         let clocks = self.clocks.clone();
-        match random.below(6) {
+        match random.below(7) {
             0 => self.edges.retain(|edge| edge.input || random.chance(70)),
             1 if !self.edges.is_empty() => {
                 let index = random.below(self.edges.len());
@@ -167,7 +193,7 @@ impl Model {
                 }
             }
             3 => {
-                let invariant = self.comparisons(random, 1, &["<="]);
+                let invariant = self.invariant(random, 1);
                 let index = random.below(self.locations.len());
                 self.locations[index].1 = invariant;
             }
@@ -175,8 +201,16 @@ impl Model {
                 let index = random.below(self.locations.len());
                 self.locations[index].1.clear();
             }
+            5 => self.restate_some(random),
             _ => self.vary_output(random),
         }
+    }
+
+    /// Comparisons by the other sign, with the same meaning.
+    fn restate_some(&mut self, random: &mut Random) {
+        let guards = self.edges.iter_mut().map(|edge| &mut edge.guard);
+        let lists = guards.chain(self.locations.iter_mut().map(|location| &mut location.1));
+        lists.flatten().filter(|_| random.chance(40)).for_each(Comparison::restate);
     }
 
     /// Drops the guard of an output, or sends it elsewhere.

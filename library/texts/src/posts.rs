@@ -1,4 +1,4 @@
-//! The five posts of SPECIFICATION 16.1.
+//! The six posts of SPECIFICATION 16.1.
 
 fn build(bound: usize, invariant: bool, late: bool, rearm: bool) -> Vec<u8> {
     let wait = if invariant { format!("Wait {{ x <= {bound} }}") } else { "Wait".to_string() };
@@ -37,4 +37,10 @@ pub fn hush() -> Vec<u8> {
 /// Hush without the invariant.
 pub fn idle() -> Vec<u8> {
     build(3, false, false, false)
+}
+
+/// Strict signs that say the same over whole ticks.
+pub fn strict() -> Vec<u8> {
+    let text = String::from_utf8(post()).expect("a post");
+    text.replace("x <= 3", "x < 4").replace("x >= 3", "x > 2").into_bytes()
 }

@@ -1,4 +1,4 @@
--- `comparison_next` is `comparison-next`, by the contracts of its three parts; its numbers are small.
+-- `comparison_next` is `comparison-next`, by the contracts of its parts; its numbers are small.
 use borrow.Author.Needs.{needs}
 use mathlib.Core.Path.{sym}
 use native.Mathlib.Omega.{arith}
@@ -12,23 +12,31 @@ use Rattle.limits.specs.Limits.{clock-limit}
 
 cast-number : tie.Need-cast-number
 cast-number c =
-    let named = c .before .before .before .use-name in
+    let named = c .before .before .before .before .use-name in
     omega (arith, used-small _ _ first-clock clock-limit _ (omega arith) _ _ (named .ensures))
 
 cast-value : tie.Need-cast-value
-cast-value c = omega (arith, amount-small _ _ _ (c .before .before .constant .ensures))
+cast-value c = omega (arith, amount-small _ _ _ _ (c .before .before .constant .ensures))
 
 returns : tie.Need-returns
 unfolding comparison-next
 returns c =
     let reads = c .before .before in
     rw (
-      sym (reads .before .before .use-name .ensures),
-      sym (reads .before .sign-next .ensures),
+      sym (reads .before .before .before .use-name .ensures),
+      sym (reads .before .before .sign-next .ensures),
+      sym (reads .before .least-constant .ensures),
       sym (reads .constant .ensures),
     )
 
 pub comparison-next-spec : {M : Type 1} → statement M
 comparison-next-spec =
     tie.close
-    (tie.spec (λ c κs. search needs) (λ c κs. search needs) (λ c κs. search needs) cast-number cast-value returns)
+    (tie.spec
+    (λ c κs. search needs)
+    (λ c κs. search needs)
+    (λ c κs. search needs)
+    (λ c κs. search needs)
+    cast-number
+    cast-value
+    returns)

@@ -1,0 +1,45 @@
+//! Those that are held against each other: an older build of the library (MEGZHOI_BEFORE), this one and plain Rust.
+
+use boundary::{Build, Operations, Returned};
+use std::rc::Rc;
+
+#[derive(Clone)]
+pub struct Contender {
+    pub name: &'static str,
+    operations: Rc<dyn Operations>,
+}
+
+pub const BEFORE: &str = "library before";
+pub const AFTER: &str = "library after";
+pub const PLAIN: &str = "plain";
+
+/// The builds of the library, the older one only where it is given, and the others.
+pub fn contenders(others: &[(&'static str, Rc<dyn Operations>)]) -> Vec<Contender> {
+    let before = Build::before().map(|build| Contender { name: BEFORE, operations: Rc::new(build) });
+    let after = Contender { name: AFTER, operations: Rc::new(Build::after()) };
+    let others = others.iter().map(|(name, operations)| Contender { name, operations: operations.clone() });
+    before.into_iter().chain([after]).chain(others).collect()
+}
+
+/// Where the contender of a name stands, if it is there.
+pub fn place(contenders: &[Contender], name: &str) -> Option<usize> {
+    contenders.iter().position(|contender| contender.name == name)
+}
+
+/// Has every contender make a call, and holds what it returns and writes against what the first one does.
+pub fn compare<T: PartialEq>(contenders: &[Contender], call: impl Fn(&dyn Operations) -> (Returned, T)) -> Returned {
+    let first = call(&*contenders[0].operations);
+    for contender in &contenders[1..] {
+        let other = call(&*contender.operations);
+        assert_eq!(first.0, other.0, "{} and {} answer otherwise", contenders[0].name, contender.name);
+        assert!(first.1 == other.1, "{} and {} write otherwise", contenders[0].name, contender.name);
+    }
+    first.0
+}
+
+/// The calls to be timed, one for each contender.
+pub type Calls = Vec<Box<dyn FnMut()>>;
+
+pub fn calls(contenders: &[Contender], call: impl Fn(Rc<dyn Operations>) -> Box<dyn FnMut()>) -> Calls {
+    contenders.iter().map(|contender| call(contender.operations.clone())).collect()
+}
