@@ -50,6 +50,13 @@ T-true true t = refl
 pub T-false : (b : Bool) → T (not b) → b ≡ false
 T-false false t = refl
 
+-- tests that pass alike are the same
+pub T-same : (a b : Bool) → (T a → T b) → (T b → T a) → a ≡ b
+T-same true true f g = refl
+T-same true false f g = absurd (f tt)
+T-same false true f g = absurd (g tt)
+T-same false false f g = refl
+
 below-suc : {P : ℕ → Type 0} (n : ℕ) → P n → ((i : ℕ) → i < n → P i) → (i : ℕ) → i < suc n → P i
 below-suc {P} n here rest i h = ⊎-elim (λ e. subst P (sym e) here) (λ l. rest i l)
     (eq-or-lt-of-le (le-of-suc-le-suc h))

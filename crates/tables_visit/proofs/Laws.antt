@@ -1,12 +1,13 @@
 -- Laws of a visit.
 use mathlib.Core.Path.{_≡_, refl, sym, subst, ap, _∙_}
 use mathlib.Core.Logic.{_⊎_, inl, inr, ⊎-elim}
-use mathlib.Core.Bool.{Bool, true, false}
+use mathlib.Core.Bool.{false}
 use mathlib.Core.List.{List, _++_}
 use Prim.Native.Nat.{ℕ, _+_, _-_, _*_, _/_, _≤_, _<_}
 use native.Mathlib.Omega.{arith}
 use lib.Dec.{T}
 use lib.ListN.{length, getD, take, drop}
+use Rattle.systems.specs.Bools.{T-same}
 use Rattle.bitmaps.specs.Bits.{bit-at, written}
 use Rattle.bitmaps.specs.BitLaws.{written-at, written-length, less}
 use Rattle.bitmaps.specs.Packed.{bytes-for}
@@ -34,19 +35,13 @@ module _ (lm rm stamps : List ℕ) (w steps s seen : ℕ) (k : List ℕ) where
       → Within w row′ from to × Looked-at lm rm stamps w steps s seen k (c + 1) row′
   step-cut W A C = (within-cut C W, cuts-more A C)
 
-bool-same : (a b : Bool) → (T a → T b) → (T b → T a) → a ≡ b
-bool-same true true f g = refl
-bool-same false false f g = refl
-bool-same true false f g = absurd (f tt)
-bool-same false true f g = absurd (g tt)
-
 module _ (w s : ℕ) (row k : List ℕ) (F : Fewer w (part (bytes-for w) s k) row) where
   -- no bit is lost, so all are there
   pub back-still : 0 + passing (bit-at row) w ≡ passing (set-at w k s) w → Put-back w s row k k 0
   back-still e = record {
     sized = refl;
     outside = λ i h. refl;
-    here = λ t h. ⊎-elim (λ l. bool-same (set-at w k s t) (bit-at row t)
+    here = λ t h. ⊎-elim (λ l. T-same (set-at w k s t) (bit-at row t)
         (passing-all (bit-at row) (set-at w k s) w (F .among) (omega arith) t l) (F .among t l))
         (λ l. sym (F .spare t l h)) (less t w);
     still = λ z. refl;
