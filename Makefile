@@ -1,10 +1,11 @@
 # make run        checks a draft against a contract: YES, NO with a run, or a refusal (DRAFT=, CONTRACT=)
 # make table      writes the widest table of the two to TABLE
 # make recheck    checks TABLE against the two
+# make implementation  says whether a draft is an implementation: YES or a refusal (DRAFT=)
 # make picture    shows the widest table as a picture (needs Netpbm)
 # make test       the gate: proves everything from nothing, tries every must-fail edit, runs the test programs
 # make definitions  holds docs/ against the files (needs python3)
-# make programs   runs the three programs on some hundred pairs of files (needs python3)
+# make programs   runs the four programs on some hundred pairs of files (needs python3)
 # make cases      writes the stored cases of the test programs anew (needs python3)
 # make library    the archive for C and Rust; c-example, differential and bench use it (cc; cargo)
 # make shared     the archive as a shared object, which bench and compare take as an older build (MEGZHOI_BEFORE=)
@@ -17,7 +18,7 @@ PICTURE ?= target/run/table.png
 LIBRARY := target/staticlib/libmegzhoi_c.a
 SHARED := target/staticlib/libmegzhoi_c.so
 
-.PHONY: run table recheck picture test definitions programs cases library shared c-example differential compare bench
+.PHONY: run table recheck implementation picture test definitions programs cases library shared c-example differential compare bench
 
 run:
 	@scripts/ask megzhoi "$(DRAFT)" "$(CONTRACT)"
@@ -28,6 +29,9 @@ table:
 recheck:
 	@[ -f "$(TABLE_FILE)" ] || { echo "there is no table $(TABLE_FILE): make table writes one" >&2; exit 2; }
 	@scripts/ask recheck "$(DRAFT)" "$(CONTRACT)" "$(TABLE_FILE)"
+
+implementation:
+	@scripts/ask implementation "$(DRAFT)"
 
 picture: table
 	@scripts/picture "$(TABLE_FILE)" "$(PICTURE)"
@@ -41,7 +45,7 @@ definitions:
 
 # The programs on some hundred pairs of files, all that they print compared with an independent reading in Python.
 programs:
-	@scripts/prove megzhoi && scripts/prove widest && scripts/prove recheck
+	@scripts/prove megzhoi && scripts/prove widest && scripts/prove recheck && scripts/prove implementation
 	@python3 tests/programs.py
 
 # Writes the stored cases of the test programs, and what is expected of them, anew.

@@ -3,8 +3,9 @@
        c-example DRAFT CONTRACT [TABLE]
 
    prints NO with n and a step a line, or YES with the number of pairs of the widest table. The table is then written
-   to the file TABLE, if one is named, and checked again: ACCEPTED with the number of its pairs. A refusal is printed as
-   REFUSED with its code, file, p, q and what the code means.
+   to the file TABLE, if one is named, and checked again: ACCEPTED with the number of its pairs. Last comes IMPLEMENTATION
+   if the draft is one itself, or NO IMPLEMENTATION with what stands in the way. A refusal is printed as REFUSED with its
+   code, file, p, q and what the code means.
 
    Exit status: 0 for YES, 1 for NO, 2 for a refusal, a file that cannot be read or written, or wrong arguments. */
 #include <stdio.h>
@@ -53,8 +54,12 @@ static void save(const char *path, const uint8_t *table, size_t len) {
     if (!f || fwrite(table, 1, len, f) != len || fclose(f)) fail(path, "cannot be written");
 }
 
+static void print_refusal(const char *word, size_t code, size_t file, size_t p, size_t q) {
+    printf("%s %zu %zu %zu %zu: %s\n", word, code, file, p, q, megzhoi_code_text(code));
+}
+
 static int refused(size_t code, size_t file, size_t p, size_t q) {
-    printf("REFUSED %zu %zu %zu %zu: %s\n", code, file, p, q, megzhoi_code_text(code));
+    print_refusal("REFUSED", code, file, p, q);
     return FAILED;
 }
 
@@ -85,6 +90,18 @@ static int table_of_yes(uint8_t *keep, size_t keep_len, const char *path) {
     return YES;
 }
 
+/* Whether the draft says of every reachable state when its outputs come; a draft that does not may keep the contract
+   all the same. */
+static void print_implementation(void) {
+    size_t file, p, q;
+    size_t code = megzhoi_implementation(left.bytes, left.len, &file, &p, &q);
+    if (code) {
+        print_refusal("NO IMPLEMENTATION", code, file, p, q);
+    } else {
+        puts("IMPLEMENTATION");
+    }
+}
+
 int main(int argc, char **argv) {
     if (argc != 3 && argc != 4) fail("usage", "c-example DRAFT CONTRACT [TABLE]");
     load(argv[1], &left);
@@ -104,6 +121,7 @@ int main(int argc, char **argv) {
         printf("NO %zu\n", n);
         for (size_t i = 0; i < n; i++) print_step(run[i]);
     }
+    if (status != FAILED) print_implementation();
     free(keep), free(back), free(line), free(run);
     return status;
 }

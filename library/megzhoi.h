@@ -1,4 +1,4 @@
-/* Megzhoi's five operations for C: refinement of timed I/O contracts over whole ticks.
+/* Megzhoi's six operations for C: refinement of timed I/O contracts over whole ticks.
 
    docs/SPECIFICATION.md has the rules; its part 15 is about what is declared here. The archive is
    target/staticlib/libmegzhoi_c.a (make library). Each function of it is proved to return and to write what
@@ -7,8 +7,9 @@
 
    A call of an operation returns 0 or the code of a refusal, and writes three numbers: *file, *p and *q. On a
    refusal they are the ones of the table below. On success *file is 0, and *p and *q are what the function says.
-   Codes 1 to 16 leave every slice as it came. From 17 on keep is written, a table and the run are untouched, and
-   back and line are untouched by 17 and free after 21. On success, entries past the written part keep their values.
+   Codes 1 to 16 leave every slice as it came. From 17 to 21 keep is written, a table and the run are untouched, and
+   back and line are untouched by 17 and free after 21. 22 and 23 come from megzhoi_implementation alone, which is lent
+   no slice. On success, entries past the written part keep their values.
    The archive needs memcpy and memset of the C library and nothing else.
 
    How long the slices are: megzhoi_read gives the number of states of each text, and megzhoi_keep_bytes,
@@ -38,7 +39,7 @@ extern "C" {
 #endif
 
 /* Codes of a refusal, with p and q (SPECIFICATION 13); crates/refusals/specs/Refusals.antt defines each. *file is 1
-   for the left or only text and 2 for the right in 1 to 12, 1 in 17, and 0 in every other. */
+   for the left or only text and 2 for the right in 1 to 12, 1 in 17, 22 and 23, and 0 in every other. */
 enum {
     MEGZHOI_TEXT_TOO_LONG = 1,       /* (0, 0) */
     MEGZHOI_MISFIT = 2,              /* (byte place, 0): the end's place is the length of the text */
@@ -60,7 +61,9 @@ enum {
     MEGZHOI_START_PAIR_NOT_SET = 18, /* (left start, right start) */
     MEGZHOI_PAIR_NOT_ALLOWED = 19,   /* (left state, right state) */
     MEGZHOI_RULE_BROKEN = 20,        /* (step, left state * right states + right state): the least step that fails */
-    MEGZHOI_RUN_TOO_SHORT = 21       /* (entries needed, 0) */
+    MEGZHOI_RUN_TOO_SHORT = 21,      /* (entries needed, 0) */
+    MEGZHOI_OUTPUT_BESIDE_TICK = 22, /* (state, channel): the lowest reachable state with a fault, its lowest output */
+    MEGZHOI_NEITHER_POSSIBLE = 23    /* (state, 0): the lowest reachable state with a fault */
 };
 
 /* What a code means, in a few words; any number that no call returns is "no such code". */
@@ -88,6 +91,8 @@ static inline const char *megzhoi_code_text(size_t code) {
     case MEGZHOI_PAIR_NOT_ALLOWED: return "the left state is not safe, or the right state's invariant is false";
     case MEGZHOI_RULE_BROKEN: return "the pair breaks a rule";
     case MEGZHOI_RUN_TOO_SHORT: return "run is too short";
+    case MEGZHOI_OUTPUT_BESIDE_TICK: return "an output is possible beside a tick, in a reachable state";
+    case MEGZHOI_NEITHER_POSSIBLE: return "neither a tick nor an output is possible, in a reachable state";
     default: return "no such code";
     }
 }
@@ -100,8 +105,9 @@ static inline const char *megzhoi_code_text(size_t code) {
 
 /* The stack that each call of an operation is to have, with room to spare. Measured with threads of given sizes, in
    steps of 0.1 MB (100,000 bytes): 4.9 MB were enough for every call, 4.8 MB were not for the search of the largest
-   texts, which makes a table of its own, and the other operations did with 0.7 MB. library/rust/tests/stack.rs tries it
-   again. On Linux the first thread of a process usually has 8 MB, and a thread that a Rust program starts has 2 MB. */
+   texts, which makes a table of its own; the other operations did with 0.7 MB, the implementation check with 0.3 MB.
+   library/rust/tests/stack.rs tries it again. On Linux the first thread of a process usually has 8 MB, and a thread
+   that a Rust program starts has 2 MB. */
 #define MEGZHOI_STACK ((size_t)6 << 20)
 
 /* The record of a text as numbers (SPECIFICATION 15.2); crates/reader_numbers/specs/Numbers.antt defines it. */
@@ -151,6 +157,10 @@ size_t megzhoi_read(const uint8_t *text, size_t text_len, size_t *record, size_t
    their count, and *q is 1 where the start is safe, else 0. */
 size_t megzhoi_safe_states(const uint8_t *text, size_t text_len, uint8_t *keep, size_t keep_len,
                            size_t *file, size_t *p, size_t *q);
+
+/* Says whether a text is an implementation: in every state that is reachable from the start, by inputs too, a tick is
+   possible or an output is, and not both. On success, where it is one, *p and *q are 0. No slice is lent. */
+size_t megzhoi_implementation(const uint8_t *text, size_t text_len, size_t *file, size_t *p, size_t *q);
 
 /* Looks for a shortest run of the left that departs from the right. On success *p is n, the number of its steps,
    0 where there is none, and *q is 0; run gets the n steps, 0 for a tick and else the left's channel number. keep

@@ -2,7 +2,7 @@
 """make_cases: write the data and the expected output of the test programs from tests/reference.py.
 
 crates/test_reader has its texts in stdin, written by hand; only its expected output is written here.
-crates/test_clocks gets texts on stdin, a `#` between two.
+crates/test_clocks and crates/test_implementation get texts on stdin, a `#` between two.
 crates/test_operations gets data/cases, records of a letter, six numbers of three bytes, low first, and bytes:
 - T, the two texts that the calls after it are about: length of the left, its length with spaces after it, the same for the
   right, and twice 0; then the left's bytes and the right's;
@@ -15,6 +15,7 @@ import random
 from collections import Counter
 from pathlib import Path
 
+import implementations
 import reference as ref
 from texts import (POST, POSTS, beat, clocked, counts, damaged, faults, late, random_text, rows, swapped, telling_pairs)
 
@@ -22,8 +23,9 @@ CRATES = Path(__file__).parent.parent / "crates"
 KEEP, ENTRY = 0xA5, 77  # what lent bytes and entries begin as
 WHOLE = 64  # so many items are shown whole
 MOST = dict(keep=520, room=16384, back=131072, line=131072, run=512, data=524288)  # the room that test_operations has
-BUFFER = 65536  # the bytes of stdin that test_reader and test_clocks read
+BUFFER = 65536  # the bytes of stdin that test_reader, test_clocks and test_implementation read
 LONG = ref.LIMITS["text"]
+PAIRED = {name: text for name, text in POSTS.items() if name not in ("Loose", "Spare")}  # the posts of SPECIFICATION 16.2 to 16.6
 
 
 def summed(items):
@@ -130,12 +132,12 @@ def two_texts(cases, left, right, run=12):
 
 
 def examples(cases):
-    """Every example against every other."""
-    for left in POSTS.values():
+    """Every example that is held against others, against every other."""
+    for left in PAIRED.values():
         cases.texts(left)
         cases.call("R")
         cases.call("S")
-        for right in POSTS.values():
+        for right in PAIRED.values():
             two_texts(cases, left, right)
 
 
@@ -365,7 +367,7 @@ def boundary_readings():
 def readings(count=265, seed=3):
     """Reading and safe states: the examples, known readings, each fault, limits, random texts with up to three clocks."""
     rng = random.Random(seed)
-    texts = [*POSTS.values(), *(t for t, _ in known_readings() + strict_readings()), *faults().values(), *boundary_readings()]
+    texts = [*PAIRED.values(), *(t for t, _ in known_readings() + strict_readings()), *faults().values(), *boundary_readings()]
     while len(texts) < count:
         channels = [(f"c{i}", rng.choice("??!!!-")) for i in range(rng.choice((1, 2, 2, 3)))]
         clocks = ["x", "y", "z"][:rng.choice((0, 1, 1, 2, 3, 3))]
@@ -377,6 +379,41 @@ def readings(count=265, seed=3):
     (CRATES / "test_clocks" / "stdout").write_text("\n".join(lines) + "\n")
     kinds = Counter(l.split("|")[0].split()[0] for l in lines)
     print("test_clocks", len(lines), "texts;", f"{kinds['states']} accepted, {kinds['refused']} refused")
+
+
+def random_implementations(rng, each=4):
+    """Random texts, so many of each answer: an implementation, 22 and 23; some state is without a tick, and five or more are reachable."""
+    wanted, texts = {0: each, 22: each, 23: each}, []
+    while any(wanted.values()):
+        channels = [(f"c{i}", rng.choice("?!!-")) for i in range(rng.choice((1, 2, 3)))]
+        text = random_text(rng, channels, ["x", "y", "z"][:rng.choice((1, 1, 2, 3))], rng.choice((1, 2, 3)))
+        code = (ref.implementation(text) or (0,))[0]
+        if not wanted.get(code):
+            continue
+        t = ref.read(text)
+        if len(t.reachable()) >= 5 and any(t.next(s, 0) is None for s in t.reachable()):
+            wanted[code] -= 1
+            texts.append(text)
+    return texts
+
+
+def implementation_cases(seed=9):
+    """The implementation check: texts with known answers, each fault of reading, random texts.
+    A line ends with `same`: nothing that the program compares may differ."""
+    known = implementations.known()
+    for text, answer in known:
+        assert ref.implementation(text) == answer, (text, answer, ref.implementation(text))
+    bad = faults()
+    assert all(ref.implementation(text)[0] == code for code, text in bad.items())
+    texts = [*(text for text, _ in known), *bad.values(), *random_implementations(random.Random(seed))]
+    assert len(b"#".join(texts)) <= BUFFER and all(b"#" not in text for text in texts) and texts[-1]
+    answers = [ref.implementation(text) for text in texts]
+    lines = ["refused %d %d %d %d same" % a if a else "yes same" for a in answers]
+    (CRATES / "test_implementation" / "stdin").write_bytes(b"#".join(texts))
+    (CRATES / "test_implementation" / "stdout").write_text("\n".join(lines) + "\n")
+    codes = Counter(a[0] if a else 0 for a in answers)
+    assert set(codes) == {0, *range(1, 12), 22, 23}
+    print("test_implementation", len(lines), "texts;", f"{codes[0]} yes, {codes[22]} with 22, {codes[23]} with 23")
 
 
 def record_lines(text):
@@ -412,22 +449,26 @@ def records():
 
 
 def uncapped(seed=5, texts=200, steps=40):
-    """Capping does not matter (SPECIFICATION 6.6): along random runs, clocks that are never capped have the moves of their states."""
+    """Capping does not matter (SPECIFICATION 6.6): along random runs, clocks that are never capped have the moves of their states.
+    These are reachable, and a text that is an implementation has an output or a tick in each of them, never both (SPECIFICATION 8.5, 8.6)."""
     rng = random.Random(seed)
     for _ in range(texts):
+        text = random_text(rng, [("a", "?"), ("b", "!")], ["x", "y", "z"][:rng.randrange(4)], 2)
         try:
-            t = ref.Text(random_text(rng, [("a", "?"), ("b", "!")], ["x", "y", "z"][:rng.randrange(4)], 2))
+            t = ref.Text(text)
         except ref.Refused:
             continue
-        config = (t.init, (0,) * len(t.clocks))
+        config, reachable, is_implementation = (t.init, (0,) * len(t.clocks)), t.reachable(), not ref.implementation(text)
         for _ in range(steps):
             moves = {c: t.step(config, c) for c in range(3)}
+            assert t.number(*config) in reachable
+            assert not is_implementation or (moves[0] is None) != (t.is_input(2) or moves[2] is None)
             assert all(t.next(t.number(*config), c) == (None if m is None else t.number(*m)) for c, m in moves.items())
             config = rng.choice([m for m in moves.values() if m is not None] or [(t.init, (0,) * len(t.clocks))])
 
 
 def stated():
-    """What SPECIFICATION 16.2 to 16.7 states of the posts is what this reading gives."""
+    """What SPECIFICATION 16.2 to 16.8 states of the posts is what this reading gives."""
     P, big, run = POSTS, bytes(512), [0] * 9
     assert ref.read(POST).count == 10 and ref.safe_states(POST, big)[0] == (9, 1) and ref.safe_states(P["Hush"], big)[0] == (5, 0)
     assert ref.read(P["Strict"]).count == 12 and ref.safe_states(P["Strict"], big)[0] == (10, 1)
@@ -444,6 +485,9 @@ def stated():
     for pairs, answer in ((diagonal, (9,)), ({(0, 0)}, (20, 0, 0, 0))):
         assert ref.check(POST, POST, big, ref.header(10, 10) + ref.raster(pairs, 10, 10))[0] == answer
     assert ref.program(P["Rearm"], POST) == b"NO 5\ntick\ntick\ntick\nspike?\ntick\n" and ref.program(POST, POST) == b"YES 29\n"
+    for text, answer in implementations.posts():
+        assert ref.implementation(text) == answer, (text, ref.implementation(text))
+    assert ref.read(P["Spare"]).count == 15 and 10 not in ref.read(P["Spare"]).reachable()
     for text, line in known_readings() + strict_readings():
         assert reading_line(text).startswith(line), (text, reading_line(text))
 
@@ -468,4 +512,5 @@ if __name__ == "__main__":
     uncapped()
     records()
     readings()
+    implementation_cases()
     operations()

@@ -1,9 +1,11 @@
 #!/usr/bin/env python3
 """programs: run the built programs on pairs of files and compare the whole of what they print with tests/reference.py.
 
-`megzhoi` and `widest` read left.xta and right.xta, `recheck` table.pbm too; each pair gets all three, `recheck` with the table that
-`widest` must have made, with damaged ones and with none. The pairs are the examples, texts with one fault each, texts at each limit
-(SPECIFICATION 4.3), texts with strict signs, files that are missing, too long or no files, and random texts (seeded).
+`megzhoi` and `widest` read left.xta and right.xta, `recheck` table.pbm too, and `implementation` left.xta alone; each pair gets all
+four, `recheck` with the table that `widest` must have made, with damaged ones and with none. The pairs are the examples, texts with
+one fault each, texts at each limit (SPECIFICATION 4.3), texts with strict signs, files that are missing, too long or no files, and
+random texts (seeded).
+`implementation` is also run with no file but left.xta, on texts with a known answer (tests/implementations.py).
 Run it at the repository's root, with the programs in target/bin; the exit status is 0 when nothing differs.
 """
 import os
@@ -13,6 +15,7 @@ import sys
 import tempfile
 from collections import Counter
 
+import implementations
 import reference as ref
 from texts import (POST, POSTS, beat, clocked, counts, faults, is_small, late, long_edges, random_pair, rows, swapped, telling_pairs, wide)
 
@@ -125,7 +128,8 @@ def table_of_rows(locations, bound):
 
 class Runner:
     def __init__(self, folder, bin_folder):
-        self.folder, self.bin, self.runs, self.differences, self.answers = folder, bin_folder, 0, 0, Counter()
+        self.folder, self.bin, self.runs, self.differences = folder, bin_folder, 0, 0
+        self.answers, self.alone = Counter(), Counter()  # of `megzhoi`; of `implementation`, by code
 
     def put(self, name, content):
         """The file, no file (None), or a folder of that name; what a program can read of it."""
@@ -148,8 +152,14 @@ class Runner:
             self.differences += 1
             print(f"{program}, {label}: printed {done.stdout[:80]!r} for {expected[:80]!r}, status {done.returncode}")
 
+    def one(self, left, label):
+        answer = ref.implementation_program(left)
+        self.alone[" ".join(answer.decode().split()[:2])] += 1
+        self.compare("implementation", answer, label)
+
     def pair(self, left, right, label, rng):
         left, right = self.put("left.xta", left), self.put("right.xta", right)
+        self.one(left, label)
         answer = ref.program(left, right)
         self.answers[answer.split()[0].decode()] += 1
         self.compare("megzhoi", answer, label)
@@ -176,6 +186,15 @@ def largest_table(runner):
         runner.compare("recheck", expected, "largest table")
 
 
+def known_answers(runner):
+    """Texts with a known answer, in a folder that has nothing but left.xta."""
+    for name in ("right.xta", "table.pbm"):
+        runner.put(name, None)
+    for i, (text, answer) in enumerate(implementations.known()):
+        assert ref.implementation(text) == answer
+        runner.one(runner.put("left.xta", text), f"known {i}")
+
+
 def main():
     rng, total = random.Random(11), 0
     with tempfile.TemporaryDirectory() as folder:
@@ -185,7 +204,9 @@ def main():
             for i, (left, right) in enumerate(pairs):
                 runner.pair(left, right, f"{kind} {i}", rng)
         largest_table(runner)
-    kinds = ", ".join(f"{n} {kind}" for kind, n in sorted(runner.answers.items()))
+        known_answers(runner)
+    kinds, alone = (", ".join(f"{n} {kind}" for kind, n in sorted(found.items())) for found in (runner.answers, runner.alone))
+    print(f"left files alone: {alone}")
     print(f"{total} pairs of files ({kinds}), {runner.runs} runs of the programs, {runner.differences} differences")
     return 1 if runner.differences else 0
 

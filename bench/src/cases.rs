@@ -1,11 +1,12 @@
 //! The tables by size: every operation on texts that grow, the library beside plain Rust and, where it is given, beside
 //! an older build.
 
-use crate::contenders::{contenders, Calls, Contender, PLAIN};
-use crate::operations::{check, reached, read, safe_states, search, states, widest, Operation, Texts};
+use crate::contenders::{contenders, with_implementation, Calls, Contender, PLAIN};
+use crate::operations::{check, implementation, reached, read, safe_states, search, states, widest, Operation, Texts};
 use boundary::{ByPairs, Returned};
+use plain::codes::OUTPUT_BESIDE_TICK;
 use std::rc::Rc;
-use texts::{chain, drifting, full_of_edges, full_of_tokens, post, scaled_post, Kind};
+use texts::{chain, drifting, full_of_edges, full_of_tokens, passive, post, relay, scaled_post, Kind, Reach};
 
 pub struct Table {
     pub title: &'static str,
@@ -22,6 +23,8 @@ pub struct Table {
 /// The texts are made when the case's turn comes, so that only one case's slices are there at a time.
 pub struct Case {
     pub name: String,
+    /// What every contender has to return: 0, or the code of a refusal.
+    code: usize,
     texts: Box<dyn Fn() -> Texts>,
 }
 
@@ -29,6 +32,14 @@ pub struct Case {
 const SIZES: [usize; 3] = [10, 32, 64];
 const CHANNELS: [usize; 2] = [4, 16];
 const KINDS: [Kind; 2] = [Kind::Refining, Kind::Departing];
+/// Values of the one clock of 32 locations: 128, 1,024 and 4,096 states.
+const OF_32_LOCATIONS: [usize; 3] = [4, 32, 128];
+/// With the words for it and the code of the implementation check.
+const REACHES: [(Reach, &str, usize); 3] = [
+    (Reach::All, "all reached", 0),
+    (Reach::Few, "few reached", 0),
+    (Reach::Fault, "fault at the end", OUTPUT_BESIDE_TICK),
+];
 
 pub fn tables() -> Vec<Table> {
     let contenders = contenders(&[(PLAIN, Rc::new(ByPairs))]);
@@ -37,12 +48,15 @@ pub fn tables() -> Vec<Table> {
         Table { title, unit, contenders, groups, operation, units }
     };
     let refining = || [drifting_groups(&[Kind::Refining]), vec![posts()]].into_iter().flatten().collect();
+    let judging = with_implementation(&contenders);
+    let of_left: fn(&Texts, Returned) -> usize = |(left, _), _| states(left);
     let all = [drifting_groups(&KINDS), vec![posts(), chains()]].into_iter().flatten().collect();
     vec![
         table("Search", "pair", drifting_groups(&KINDS), search, |texts, _| reached(texts)),
         table("Widest table", "pair", all, widest, |(left, right), _| states(left) * states(right)),
         table("Check of the widest table", "pair", refining(), check, |_, returned| returned.p),
-        table("Safe states", "state", of_the_left(refining()), safe_states, |(left, _), _| states(left)),
+        table("Safe states", "state", of_the_left(refining()), safe_states, of_left),
+        Table { contenders: judging, ..table("Implementation", "state", implementations(), implementation, of_left) },
         table("Reading", "byte", reading(), read, |(text, _), _| text.len()),
     ]
 }
@@ -52,13 +66,13 @@ impl Table {
     pub fn make(&self, case: &Case) -> (usize, Calls) {
         let texts = Rc::new((case.texts)());
         let (returned, calls) = (self.operation)(&self.contenders, texts.clone());
-        assert_eq!(returned.code, 0, "{} is refused", case.name);
+        assert_eq!(returned.code, case.code, "{} is answered otherwise", case.name);
         ((self.units)(&texts, returned), calls)
     }
 }
 
 fn case(name: String, texts: impl Fn() -> Texts + 'static) -> Case {
-    Case { name, texts: Box::new(texts) }
+    Case { name, code: 0, texts: Box::new(texts) }
 }
 
 fn drifting_groups(kinds: &[Kind]) -> Vec<Vec<Case>> {
@@ -86,8 +100,8 @@ fn posts() -> Vec<Case> {
 
 /// The chains, where pairs are removed against the order of the state numbers.
 fn chains() -> Vec<Case> {
-    let sized = [4, 32, 128];
-    Vec::from(sized.map(|values| case(format!("{0} × {0} states, chain", 32 * values), move || chain(values))))
+    let chain_of = |values| case(format!("{0} × {0} states, chain", 32 * values), move || chain(values));
+    Vec::from(OF_32_LOCATIONS.map(chain_of))
 }
 
 /// The same texts for an operation on one of them.
@@ -95,6 +109,25 @@ fn of_the_left(mut groups: Vec<Vec<Case>>) -> Vec<Vec<Case>> {
     for case in groups.iter_mut().flatten() {
         case.name = case.name.split(" × ").last().expect("a name").replace(", refining", "");
     }
+    groups
+}
+
+/// Texts of which all states are reached, few are, or the last one has a fault; larger posts, and states that are reached
+/// one after another.
+fn implementations() -> Vec<Vec<Case>> {
+    let mut groups = Vec::new();
+    for channels in CHANNELS {
+        groups.extend(REACHES.map(|(reach, words, code)| {
+            let sized = SIZES.map(|values| {
+                let name = format!("{} states, {channels} channels, {words}", values * values);
+                Case { code, ..case(name, move || (passive(values, channels, reach), Vec::new())) }
+            });
+            Vec::from(sized)
+        }));
+    }
+    let relay_of =
+        |values| case(format!("{} states, one after another", 32 * values), move || (relay(values), Vec::new()));
+    groups.extend(of_the_left(vec![posts(), Vec::from(OF_32_LOCATIONS.map(relay_of))]));
     groups
 }
 

@@ -21,6 +21,12 @@ pub fn contenders(others: &[(&'static str, Rc<dyn Operations>)]) -> Vec<Contende
     before.into_iter().chain([after]).chain(others).collect()
 }
 
+/// Those that have the implementation check: an older build may lack it.
+pub fn with_implementation(contenders: &[Contender]) -> Vec<Contender> {
+    let has = |contender: &&Contender| contender.operations.implementation(&[]).is_some();
+    contenders.iter().filter(has).cloned().collect()
+}
+
 /// Where the contender of a name stands, if it is there.
 pub fn place(contenders: &[Contender], name: &str) -> Option<usize> {
     contenders.iter().position(|contender| contender.name == name)

@@ -3,8 +3,9 @@
 //! Prints markdown tables. Every answer of the two is compared; a difference ends the run.
 //! MEGZHOI_ROUNDS is how often each is timed (7); MEGZHOI_ONLY leaves out the cases whose line does not have it.
 //! MEGZHOI_BEFORE is the path of an older build of the library as a shared object, which every table then shows beside
-//! this one, timed in the same rounds; its answers have to be the same. MEGZHOI_AFTER names this build's own shared
-//! object: calls into a shared object and into a linked archive differ by a few hundredths.
+//! this one, timed in the same rounds; its answers have to be the same. An operation that it lacks is timed without it.
+//! MEGZHOI_AFTER names this build's own shared object: calls into a shared object and into a linked archive differ by a
+//! few hundredths.
 
 mod cases;
 mod contenders;
@@ -34,6 +35,10 @@ fn print_sizes(table: &cases::Table, rounds: usize, only: &str) {
         None => ("", ""),
     };
     println!("### {title}\n");
+    if place(&table.contenders, AFTER).is_none() {
+        println!("This build does not have the operation.\n");
+        return;
+    }
     println!(
         "| input | {unit}s | library best | median | plain best | median | ratio | library ns/{unit} \
          | plain ns/{unit} | growth |{names}"

@@ -1,4 +1,4 @@
-//! The five operations as they are timed: what the contenders return and write is compared first.
+//! The six operations as they are timed: what the contenders return and write is compared first.
 
 use crate::contenders::{calls, compare, Calls, Contender};
 use boundary::{ByRows, Operations, Returned};
@@ -42,6 +42,19 @@ pub fn safe_states(contenders: &[Contender], texts: Rc<Texts>) -> (Returned, Cal
         let texts = texts.clone();
         Box::new(move || {
             black_box(operations.safe_states(&texts.0, &mut [0; KEEP]));
+        })
+    });
+    (returned, calls)
+}
+
+/// The contenders have the operation; nothing is written.
+pub fn implementation(contenders: &[Contender], texts: Rc<Texts>) -> (Returned, Calls) {
+    let judge = |operations: &dyn Operations, text: &[u8]| operations.implementation(text).expect("the operation");
+    let returned = compare(contenders, |operations| (judge(operations, &texts.0), ()));
+    let calls = calls(contenders, |operations| {
+        let texts = texts.clone();
+        Box::new(move || {
+            black_box(judge(&*operations, &texts.0));
         })
     });
     (returned, calls)

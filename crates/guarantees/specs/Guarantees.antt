@@ -1,9 +1,10 @@
 -- THE GUARANTEES, to be read first. The demands (SPECIFICATION 17.1 to 17.3) as theorems about the operations' own
--- outcomes (safe-outcome, search-outcome, check-outcome, widest-outcome), which the contracts of the operations equate
--- with what the code answers and leaves in the lent slices. The words are defined in Texts.antt and, for systems, in
--- crate systems, Definitions.antt, and in crate demands, Words.antt; what each demand asks, clause by clause, is a
--- record or a type of cases in crate demands, Demands.antt and Answers.antt, and in Demands.antt here. The other files
--- of this crate are laws: the operations on two texts are instances of those on two systems.
+-- outcomes (safe-outcome, search-outcome, check-outcome, widest-outcome, implementation-outcome), which the contracts of
+-- the operations equate with what the code answers and leaves in the lent slices. The words are defined in Texts.antt and,
+-- for systems, in crate systems, Definitions.antt, in crate reachable, Meaning.antt, and in crate demands, Words.antt; what
+-- each demand asks, clause by clause, is a record or a type of cases in crate demands, Demands.antt and Answers.antt, and in
+-- Demands.antt and Implementations.antt here. The other files of this crate are laws: the operations on two texts are
+-- instances of those on two systems.
 use mathlib.Core.Path.{_≡_, subst}
 use mathlib.Core.Logic.{_↔_}
 use mathlib.Core.Option.{none, some}
@@ -15,6 +16,7 @@ use Rattle.clocks_read.specs.Laws.{read-accepted}
 use Rattle.two_texts.specs.Two.{text-of, two-judged}
 use Rattle.two_texts.specs.Laws.{judged-none, channels-equal, judged-by-some}
 use Rattle.safe_states.specs.Outcome.{safe-outcome}
+use Rattle.implementation_check.specs.Outcome.{implementation-outcome}
 use Rattle.search.specs.declared.SearchAnswer.the-variants as search-answer
 use Rattle.search.specs.Outcome as search
 use Rattle.two_operations.specs.Outcome.{search-outcome, check-outcome, widest-outcome}
@@ -29,6 +31,8 @@ use Rattle.guarantees.specs.Texts.{Accepted-text, states, meaning, numbe
 use Rattle.guarantees.specs.Demands.{Safe-demand}
 use Rattle.guarantees.specs.Comparisons.{Comparisons-demand}
 use Rattle.guarantees.specs.Compared.{comparisons-promised}
+use Rattle.guarantees.specs.Implementations.{Implementation-demand}
+use Rattle.guarantees.specs.Implemented.{implementation-promised}
 use Rattle.guarantees.specs.Counted as counted
 use Rattle.guarantees.specs.Setting.{nothing-found, one-capping, left-capping, right-capping, by-texts, form-sizes, search-is, check-is, widest-is}
 
@@ -48,6 +52,11 @@ safe-states-given = counted.safe-demand
 -- value, and that the start's invariant holds (SPECIFICATION 17.7).
 pub comparisons-mean : (s : List ℕ) → Accepted-text s → Comparisons-demand (text-of s)
 comparisons-mean s a = comparisons-promised (text-of s) (read-accepted s a .accepted .formed)
+
+-- The implementation check, for every text: when it succeeds, what 22 and 23 say, and that a text for which it succeeds
+-- is an implementation that satisfies itself (SPECIFICATION 17.8).
+pub implementation-exactly : (s : List ℕ) → Implementation-demand s (implementation-outcome s)
+implementation-exactly = implementation-promised
 
 -- DEMAND 1 (SPECIFICATION 17.1). An operation on two texts gives one of the codes 1 to 12 exactly unless both texts are
 -- accepted and have equal channels; then everything lent is as it came.

@@ -5,3 +5,5 @@ pub mod Comparisons
 pub mod Setting
 pub mod Counted
 pub mod Compared
+pub mod Implementations
+pub mod Implemented

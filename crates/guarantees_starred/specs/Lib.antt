@@ -7,3 +7,4 @@ pub mod Outcomes
 pub mod Safe
 pub mod Starred
 pub mod Met
+pub mod Implementations

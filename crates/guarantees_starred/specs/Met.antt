@@ -1,4 +1,4 @@
--- That the hypotheses of the demands (SPECIFICATION 17.2, 17.3) can be met: by Post (SPECIFICATION 16.1) against
+-- That the hypotheses of the demands (SPECIFICATION 17.2, 17.3, 17.8) can be met: by Post (SPECIFICATION 16.1) against
 -- itself, with slices that are long enough.
 use mathlib.Core.Path.{_≡_, sym, ap, subst, _∙_}
 use mathlib.Core.Bool.{Bool, true}
@@ -6,15 +6,18 @@ use mathlib.Core.List.{List}
 use Prim.Native.Nat.{ℕ, _≤_}
 use lib.Dec.{T}
 use lib.ListN.{length}
-use Rattle.reader_examples.specs.Texts.{post, strict}
+use Rattle.reader_examples.specs.Texts.{post, strict, loose, hush}
 use Rattle.systems.specs.Tests.{at}
 use Rattle.systems.specs.Finite.{safe}
+use Rattle.reachable.specs.declared.Finding.the-variants.{OutputBesideTick, NeitherPossible}
+use Rattle.reachable.specs.Meaning.{Says, Own-implementation}
 use Rattle.systems.specs.Theorems.{implementation-iff}
 use Rattle.two_operations.specs.Outcome.{search-outcome, check-outcome, widest-outcome}
 use Rattle.tables_header.specs.Header.{fits}
 use Rattle.demands.specs.Long.{no-refusal}
 use Rattle.demands.specs.Words.{Consistent, Long-enough, search-refusal, check-refusal, widest-refusal, Right-form}
-use Rattle.guarantees.specs.Texts.{Accepted-text, states, meaning, Equal-channels}
+use Rattle.guarantees.specs.Texts.{Accepted-text, states, meaning, number, Equal-channels}
+use Rattle.guarantees.specs.Guarantees.{implementation-exactly}
 use Rattle.guarantees.specs.Setting.{left-capping, Left}
 use Rattle.guarantees_starred.specs.Posts.{post-keep, post-known, strict-known}
 use Rattle.guarantees_starred.specs.Runs.{post-post-equal, strict-post-equal}
@@ -30,6 +33,17 @@ post-accepted = left-accepted post-known post-known post-post-equal
 -- an accepted text with strict signs (SPECIFICATION 16.2)
 pub strict-accepted : Accepted-text strict
 strict-accepted = left-accepted strict-known post-known strict-post-equal
+
+-- texts for which the implementation check succeeds, gives 22 and gives 23: what SPECIFICATION 17.8 says of each answer
+-- is said of one
+pub post-own : Own-implementation (meaning post post-accepted) (number post post-accepted)
+post-own = implementation-exactly post .itself (starred-posts .post-passes) post-accepted
+
+pub loose-says : (a : Accepted-text loose) × Says (meaning loose a) (number loose a) (OutputBesideTick 2 3)
+loose-says = implementation-exactly loose .beside 2 3 .0 (starred-posts .loose-beside)
+
+pub hush-says : (a : Accepted-text hush) × Says (meaning hush a) (number hush a) (NeitherPossible 3)
+hush-says = implementation-exactly hush .neither 3 .0 (starred-posts .hush-neither)
 
 -- equal channels
 pub post-channels : Equal-channels post post

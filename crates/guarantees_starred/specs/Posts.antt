@@ -1,4 +1,4 @@
--- The six texts, read and judged: accepted, and the safe states of each, computed.
+-- Six of the texts, read and judged: accepted, and the safe states of each, computed.
 use mathlib.Core.Path.{_≡_, refl, sym, ap, _∙_}
 use mathlib.Core.Bool.{Bool, true, false}
 use mathlib.Core.List.{List, [], _∷_}
@@ -24,7 +24,7 @@ use Rattle.guarantees_starred.specs.Opened.{opened}
 abbrev pub reading-of : Text → Reading
 reading-of t = record { answer = verdict.Accepted; text = t; states = state-count t }
 
-read-known : (s : List ℕ) (t : Text) → read-text s ≡ record { answer = verdict.Accepted; text = t } → judgement t
+pub read-known : (s : List ℕ) (t : Text) → read-text s ≡ record { answer = verdict.Accepted; text = t } → judgement t
     ≡ Clean
     → read-outcome s ≡ reading-of t
 unfolding read-outcome parsed-reading judged-reading

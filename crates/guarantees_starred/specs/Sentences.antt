@@ -1,12 +1,16 @@
--- The starred posts, that is the examples that are proved: what SPECIFICATION 16.2 to 16.6 say of the six texts.
+-- The starred posts, that is the examples that are proved: what SPECIFICATION 16.2 to 16.6 and 16.8 say of the eight
+-- texts.
 -- Definitions only: Starred.antt proves them (SPECIFICATION 17.4).
 use mathlib.Core.Path.{_≡_}
 use mathlib.Core.Bool.{true, false}
 use mathlib.Core.List.{List, [], _∷_, _++_}
 use Prim.Native.Nat.{ℕ, _*_, _≤_}
 use lib.ListN.{length, drop}
-use Rattle.reader_examples.specs.Texts.{post, rearm, early, strict, hush, idle}
+use Rattle.reader_examples.specs.Texts.{post, rearm, early, strict, loose, hush, idle, spare}
+use Rattle.refusals.specs.declared.Verdict.the-variants as verdict
 use Rattle.systems.specs.Definitions.{tick}
+use Rattle.reachable.specs.Check.{neither}
+use Rattle.clocks.specs.States.{input, next}
 use Rattle.bitmaps.specs.Packed.{bytes-for}
 use Rattle.clocks_read.specs.Reading.{read-outcome}
 use Rattle.search.specs.declared.SearchAnswer.the-variants.{Found, Refused}
@@ -16,6 +20,7 @@ use Rattle.tables.specs.declared.WidestAnswer.the-variants as made
 use Rattle.two_operations.specs.Outcome.{search-outcome, check-outcome, widest-outcome}
 use Rattle.safe_states.specs.declared.SafeAnswer.the-variants as counted
 use Rattle.safe_states.specs.Outcome.{safe-outcome}
+use Rattle.implementation_check.specs.Outcome.{implementation-outcome}
 use Rattle.demands.specs.Words.{Right-form}
 
 -- the slices of a search over n left and m right states are long enough, and the run for so many steps
@@ -114,3 +119,16 @@ pub record Starred : Type 0 where
       → widest-outcome post strict keep table .answer ≡ made.Made 34 true
   -- the departure of Rearm from Post that the program prints (SPECIFICATION 16.5)
   pub rearm-post : Searches rearm post 10 10 5 (tick ∷ tick ∷ tick ∷ 2 ∷ tick ∷ [])
+  -- the implementation check: five posts are implementations, and where Hush and Loose have their faults
+  -- (SPECIFICATION 16.8)
+  pub post-passes : implementation-outcome post ≡ verdict.Accepted
+  pub rearm-passes : implementation-outcome rearm ≡ verdict.Accepted
+  pub early-passes : implementation-outcome early ≡ verdict.Accepted
+  pub idle-passes : implementation-outcome idle ≡ verdict.Accepted
+  pub strict-passes : implementation-outcome strict ≡ verdict.Accepted
+  pub hush-neither : implementation-outcome hush ≡ verdict.Refused (record { code = 23; file = 1; p = 3; q = 0 })
+  pub loose-beside : implementation-outcome loose ≡ verdict.Refused (record { code = 22; file = 1; p = 2; q = 3 })
+  -- Spare is one too, though a state that no run leads to has neither a tick nor an output (SPECIFICATION 16.8)
+  pub spare-states : read-outcome spare .states ≡ 15
+  pub spare-fault : neither 4 (input (read-outcome spare .text)) (next (read-outcome spare .text)) 10 ≡ true
+  pub spare-passes : implementation-outcome spare ≡ verdict.Accepted

@@ -33,6 +33,7 @@ use Rattle.tables.specs.declared.WidestAnswer.the-variants as made
 use Rattle.tables.specs.Outcome.{Checked, check-refused, scanned, Widened, widest-refused}
 use Rattle.guarantees_starred.specs.Sentences.{widest-raster, diagonal-raster, start-raster, ten-by-ten, hush-kept, Starred}
 use Rattle.guarantees_starred.specs.Safe.{post-counted, strict-counted, hush-counted}
+use Rattle.guarantees_starred.specs.Implementations.{post-passes, rearm-passes, early-passes, idle-passes, strict-passes, hush-neither, loose-beside, spare-count, spare-fault, spare-passes}
 use Rattle.guarantees_starred.specs.Posts.{Known, hush-keep, post-known, rearm-known, early-known, strict-known, hush-known, idle-known}
 use Rattle.guarantees_starred.specs.Runs.{Pair, left-of, right-of, post-post-equal, early-post-equal, idle-post-equal, post-idle-equal, post-hush-equal, rearm-post-equal, hush-post-equal, strict-post-equal, post-strict-equal, strict-post-run, post-strict-run, post-post-run, early-post-run, idle-post-run, post-idle-run, post-hush-run, rearm-post-run}
 use Rattle.guarantees_starred.specs.Tables.{post-pairs, post-widest, post-count, post-file, file-size, header-size, strict-file-size, strict-file-wide, pairs-of, rearm-pairs, strict-post-pairs, post-strict-pairs, diagonal-judged, start-fault, start-judged, diagonal-count, diagonal-fits, start-fits}
@@ -114,4 +115,14 @@ starred-posts = record {
   post-idle = searched post-known idle-known post-idle-equal refl (tick ∷ tick ∷ tick ∷ 3 ∷ []) post-idle-run;
   post-hush = searched post-known hush-known post-hush-equal refl (tick ∷ tick ∷ tick ∷ 3 ∷ []) post-hush-run;
   rearm-post = searched rearm-known post-known rearm-post-equal refl (tick ∷ tick ∷ tick ∷ 2 ∷ tick ∷ []) rearm-post-run;
+  post-passes = post-passes;
+  rearm-passes = rearm-passes;
+  early-passes = early-passes;
+  idle-passes = idle-passes;
+  strict-passes = strict-passes;
+  hush-neither = hush-neither;
+  loose-beside = loose-beside;
+  spare-states = spare-count;
+  spare-fault = spare-fault;
+  spare-passes = spare-passes;
 }

@@ -36,10 +36,10 @@ refused f = four (f .code) (f .file) (f .p) (f .q)
 abbrev pub as-number : Bool → ℕ
 as-number b = cond b 1 0
 
--- reading: the number of states
-unfoldable pub of-read : Verdict → ℕ → Returned
-of-read verdict.Accepted states = success states 0
-of-read (verdict.Refused f) states = refused f
+-- reading, whose p is the number of states, and the implementation check, whose p is 0
+unfoldable pub of-verdict : Verdict → ℕ → Returned
+of-verdict verdict.Accepted p = success p 0
+of-verdict (verdict.Refused f) p = refused f
 
 -- the record of a text that was read, written as far as the slice goes; a refusal leaves the slice as it came
 unfoldable pub recorded : Verdict → Text → ℕ → List ℕ → List ℕ

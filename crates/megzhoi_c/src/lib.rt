@@ -1,4 +1,4 @@
-// The five operations for callers in C and Rust (SPECIFICATION 15). A slice is a pointer and a length in entries. The
+// The six operations for callers in C and Rust (SPECIFICATION 15). A slice is a pointer and a length in entries. The
 // answer is four numbers: the code, 0 for success, is returned, and the file mark, p and q are written. Three more
 // functions say how long the slices are that a caller lends.
 use limits::STATE_LIMIT;
@@ -14,10 +14,11 @@ ghost use mathlib.Core.Path.{_≡_};
 ghost use lib.ListN.{length};
 ghost use Rattle.clocks_read.specs.Reading.{read-outcome};
 ghost use Rattle.safe_states.specs.Outcome.{safe-outcome};
+ghost use Rattle.implementation_check.specs.Outcome.{implementation-outcome};
 ghost use Rattle.search.specs.Outcome.{Scratch};
 ghost use Rattle.two_operations.specs.Outcome.{search-outcome, check-outcome, widest-outcome};
 ghost use Rattle.megzhoi_c.specs.Returned.{four, success, refused, as-number, recorded};
-ghost use Rattle.megzhoi_c.specs.Returned.{of-read, of-safe, of-search, of-check, of-widest};
+ghost use Rattle.megzhoi_c.specs.Returned.{of-verdict, of-safe, of-search, of-check, of-widest};
 ghost use mathlib.Core.Bool.{_&&_};
 ghost use Rattle.megzhoi_c.specs.Sizes.{possible, keep-needed, table-needed, queue-needed};
 
@@ -66,11 +67,11 @@ fn refused(f: Refusal) -> Returned
     }
 }
 
-fn read_returned(a: Verdict, states: usize) -> Returned
-    ensures { λ r. ⌜ r ≡ of-read a states ⌝ }
+fn verdict_returned(a: Verdict, p: usize) -> Returned
+    ensures { λ r. ⌜ r ≡ of-verdict a p ⌝ }
 {
     match a {
-        Verdict::Accepted => succeeded(states, 0),
+        Verdict::Accepted => succeeded(p, 0),
         Verdict::Refused(f) => refused(f),
     }
 }
@@ -147,7 +148,7 @@ pub extern "C" fn megzhoi_read(
     q: &mut usize,
 ) -> usize
     ensures { λ r. ⌜ four r (now (file .exit)) (now (p .exit)) (now (q .exit)) ≡
-        of-read (read-outcome (now (text .entry)) .answer) (read-outcome (now (text .entry)) .states) ⌝ }
+        of-verdict (read-outcome (now (text .entry)) .answer) (read-outcome (now (text .entry)) .states) ⌝ }
     ensures { λ _. ⌜ now (out .exit) ≡ recorded (read-outcome (now (text .entry)) .answer)
         (read-outcome (now (text .entry)) .text) (read-outcome (now (text .entry)) .states) (now (out .entry)) ⌝ }
 {
@@ -155,7 +156,7 @@ pub extern "C" fn megzhoi_read(
     let answer = reading.answer;
     let t = reading.text;
     write_record(answer, t, reading.states, out);
-    let f = read_returned(answer, reading.states);
+    let f = verdict_returned(answer, reading.states);
     hand_out(f, file, p, q)
 }
 
@@ -174,6 +175,22 @@ pub extern "C" fn megzhoi_safe_states(
 {
     let answer = operations::safe_states(text, keep);
     let f = safe_returned(answer);
+    hand_out(f, file, p, q)
+}
+
+// Says whether a text is an implementation: p is 0.
+#[no_mangle]
+pub extern "C" fn megzhoi_implementation(
+    text: &[u8],
+    file: &mut usize,
+    p: &mut usize,
+    q: &mut usize,
+) -> usize
+    ensures { λ r. ⌜ four r (now (file .exit)) (now (p .exit)) (now (q .exit)) ≡
+        of-verdict (implementation-outcome (now (text .entry))) 0 ⌝ }
+{
+    let answer = operations::implementation(text);
+    let f = verdict_returned(answer, 0);
     hand_out(f, file, p, q)
 }
 

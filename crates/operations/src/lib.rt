@@ -1,9 +1,10 @@
-// The five operations (SPECIFICATION 12.1 to 12.6), for all bytes, contents and lengths: code and promise of the whole
+// The six operations (SPECIFICATION 12.1 to 12.6, 12.9), for all bytes, contents and lengths: code and promise of the whole
 // tool on one page. Each parses and measures what it is given, makes slices that have room for it, small ones where
 // small ones do, and hands them to the layers below. There is no heap, and no way to hand a function slices that are
 // made elsewhere by a choice: so the choice stands in each of them.
 use clocks_read::Reading;
 use limits::FEW_STATES;
+use refusals::Verdict;
 use safe_states::SafeAnswer;
 use search::SearchAnswer;
 use tables::CheckAnswer;
@@ -11,6 +12,7 @@ use tables::WidestAnswer;
 ghost use mathlib.Core.Path.{_≡_};
 ghost use lib.ListN.{length};
 ghost use Rattle.clocks_read.specs.Reading.{read-outcome};
+ghost use Rattle.implementation_check.specs.Outcome.{implementation-outcome};
 ghost use Rattle.safe_states.specs.Outcome as safe;
 ghost use Rattle.search.specs.Outcome.{Outcome, Scratch};
 ghost use Rattle.tables.specs.Outcome.{Checked, Widened};
@@ -46,6 +48,32 @@ pub fn safe_states(text: &[u8], keep: &mut [u8]) -> SafeAnswer
     let mut moves = clocks_read::moves_for_any_text();
     let mut holds = clocks_read::bits_for_any_text();
     safe_states::safe_in(text, m, &mut moves, &mut holds, keep)
+}
+
+// Says whether a text is an implementation: codes 1 to 11, 22 and 23 (SPECIFICATION 12.9).
+pub fn implementation(text: &[u8]) -> Verdict
+    ensures { λ r. ⌜ r ≡ implementation-outcome (now (text .entry)) ⌝ }
+{
+    let m = clocks_read::measure(text);
+    if m.states <= FEW_STATES {
+        let mut moves = clocks_read::moves_for_few_states();
+        let mut holds = clocks_read::bits_for_few_states();
+        let mut seen = implementation_check::marks_for_few_states();
+        let mut queue = implementation_check::queue_for_few_states();
+        return implementation_check::implementation_in(
+            text,
+            m,
+            &mut moves,
+            &mut holds,
+            &mut seen,
+            &mut queue,
+        );
+    }
+    let mut moves = clocks_read::moves_for_any_text();
+    let mut holds = clocks_read::bits_for_any_text();
+    let mut seen = implementation_check::marks_for_any_text();
+    let mut queue = implementation_check::queue_for_any_text();
+    implementation_check::implementation_in(text, m, &mut moves, &mut holds, &mut seen, &mut queue)
 }
 
 // Looks for a shortest departure of the left text from the right; keep gets the left's safe states, back and line are

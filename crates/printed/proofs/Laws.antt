@@ -7,7 +7,10 @@ use lib.ListN.{length}
 use borrow.Author.Tests.{eq-eqb, ne-eqb}
 use Rattle.limits.specs.Limits.{keep-limit}
 use Rattle.refusals.specs.declared.Refusal.{Refusal}
+use Rattle.refusals.specs.declared.Verdict.{Verdict}
+use Rattle.refusals.specs.declared.Verdict.the-variants as verdict
 use Rattle.clocks_read.specs.Reading.{read-outcome}
+use Rattle.implementation_check.specs.Outcome.{implementation-outcome}
 use Rattle.search.specs.declared.SearchAnswer.{SearchAnswer}
 use Rattle.search.specs.declared.SearchAnswer.the-variants as search
 use Rattle.search.specs.Outcome.{Outcome}
@@ -17,8 +20,8 @@ use Rattle.tables.specs.declared.WidestAnswer.{WidestAnswer}
 use Rattle.tables.specs.declared.WidestAnswer.the-variants as made
 use Rattle.tables.specs.Outcome.{Checked, Widened}
 use Rattle.two_operations.specs.Outcome.{search-outcome, check-outcome, widest-outcome}
-use Rattle.printed_lines.specs.Lines.{refusal-line, yes-line, accepted-line, departure-lines}
-use Rattle.printed.specs.Prints.{zeros, entries, counted-bytes, widest-line, search-lines, megzhoi-prints, check-line, recheck-prints}
+use Rattle.printed_lines.specs.Lines.{refusal-line, yes-line, passed-line, accepted-line, departure-lines}
+use Rattle.printed.specs.Prints.{zeros, entries, counted-bytes, widest-line, search-lines, megzhoi-prints, check-line, recheck-prints, verdict-line, implementation-prints}
 
 module _ (left right : List ℕ) where
   -- the check
@@ -83,6 +86,20 @@ widest-made e = rw e
 pub widest-refused : {a : WidestAnswer} {f : Refusal} → a ≡ made.Refused f → refusal-line f ≡ widest-line a
 unfolding widest-line
 widest-refused e = rw e
+
+-- the implementation check
+pub implementation-line : (left : List ℕ) {v : Verdict} → v ≡ implementation-outcome left
+    → verdict-line v ≡ implementation-prints left
+unfolding implementation-prints
+implementation-line left e = ap verdict-line e
+
+pub verdict-passed : {v : Verdict} → v ≡ verdict.Accepted → passed-line ≡ verdict-line v
+unfolding verdict-line
+verdict-passed e = rw e
+
+pub verdict-refused : {v : Verdict} {f : Refusal} → v ≡ verdict.Refused f → refusal-line f ≡ verdict-line v
+unfolding verdict-line
+verdict-refused e = rw e
 
 -- equal lists are equally short
 pub short-as : {xs ys : List ℕ} {n : ℕ} → xs ≡ ys → length xs ≤ n → length ys ≤ n

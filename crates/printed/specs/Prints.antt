@@ -1,11 +1,14 @@
--- What each program prints, as a definition of its files' bytes (SPECIFICATION 14.1, 14.2, 14.5).
+-- What each program prints, as a definition of its files' bytes (SPECIFICATION 14.1, 14.2, 14.5, 14.7).
 use mathlib.Core.Bool.{cond}
 use mathlib.Core.List.{List}
 use Prim.Native.Nat.{ℕ}
 use lib.Dec.{eqb}
 use lib.ListN.{take, replicate}
 use Rattle.limits.specs.Limits.{keep-limit}
+use Rattle.refusals.specs.declared.Verdict.{Verdict}
+use Rattle.refusals.specs.declared.Verdict.the-variants as verdict
 use Rattle.clocks_read.specs.Reading.{read-outcome}
+use Rattle.implementation_check.specs.Outcome.{implementation-outcome}
 use Rattle.search.specs.declared.SearchAnswer.{SearchAnswer}
 use Rattle.search.specs.declared.SearchAnswer.the-variants as search
 use Rattle.tables_header.specs.Header.{table-bytes}
@@ -14,7 +17,7 @@ use Rattle.tables.specs.declared.CheckAnswer.the-variants as check
 use Rattle.tables.specs.declared.WidestAnswer.{WidestAnswer}
 use Rattle.tables.specs.declared.WidestAnswer.the-variants as made
 use Rattle.two_operations.specs.Outcome.{search-outcome, check-outcome, widest-outcome}
-use Rattle.printed_lines.specs.Lines.{refusal-line, yes-line, accepted-line, departure-lines}
+use Rattle.printed_lines.specs.Lines.{refusal-line, yes-line, passed-line, accepted-line, departure-lines}
 
 -- a slice as a program lends it to an operation
 unfoldable pub zeros : ℕ → List ℕ
@@ -64,3 +67,12 @@ check-line (check.Refused f) = refusal-line f
 -- program recheck
 unfoldable pub recheck-prints : List ℕ → List ℕ → List ℕ → List ℕ
 recheck-prints left right table = check-line (check-outcome left right (zeros keep-limit) table .answer)
+
+-- `YES`, or the refusal
+unfoldable pub verdict-line : Verdict → List ℕ
+verdict-line verdict.Accepted = passed-line
+verdict-line (verdict.Refused f) = refusal-line f
+
+-- program implementation
+unfoldable pub implementation-prints : List ℕ → List ℕ
+implementation-prints left = verdict-line (implementation-outcome left)

@@ -4,6 +4,7 @@
 use limits::KEEP_LIMIT;
 use limits::LARGEST_NAME;
 use printed_lines::LINE_LIMIT;
+use refusals::Verdict;
 use search::SearchAnswer;
 use tables::CheckAnswer;
 use tables::WidestAnswer;
@@ -21,7 +22,7 @@ ghost use Rattle.printed_lines.specs.Lines.{line, departure-lines};
 ghost use Rattle.printed_lines.specs.Room.{line-limit};
 ghost use Rattle.printed.specs.Room.{megzhoi-limit};
 ghost use Rattle.printed.specs.Prints.{zeros, entries, counted-bytes, widest-line};
-ghost use Rattle.printed.specs.Prints.{megzhoi-prints, widest-prints, recheck-prints};
+ghost use Rattle.printed.specs.Prints.{megzhoi-prints, widest-prints, recheck-prints, implementation-prints};
 
 // The entries of back, of line and of run, and the bytes of the table that is counted.
 const ENTRIES: usize = 16384;
@@ -141,5 +142,18 @@ pub fn recheck(left: &[u8], right: &[u8], table: &[u8], out: &mut [u8]) -> usize
     match answer {
         CheckAnswer::Accepted(count) => printed_lines::put_accepted(out, 0, count),
         CheckAnswer::Refused(f) => printed_lines::put_refusal(out, 0, f),
+    }
+}
+
+// Program implementation: YES, or the refusal.
+pub fn implementation(left: &[u8], out: &mut [u8]) -> usize
+    ensures { λ r. ⌜ _≡_ {A = Laid} (record { slice = now (out .exit); count = r })
+        (laid (now (out .entry)) (implementation-prints (now (left .entry)))) ⌝ }
+    ensures { λ _. ⌜ length (implementation-prints (now (left .entry))) ≤ line-limit ⌝ }
+{
+    let answer = operations::implementation(left);
+    match answer {
+        Verdict::Accepted => printed_lines::put_passed(out, 0),
+        Verdict::Refused(f) => printed_lines::put_refusal(out, 0, f),
     }
 }

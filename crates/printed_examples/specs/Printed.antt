@@ -15,8 +15,8 @@ use Rattle.guarantees_starred.specs.Sentences.{Room, widest-raster, ten-by-ten}
 use Rattle.guarantees_starred.specs.Tables.{file-size}
 use Rattle.guarantees_starred.specs.Starred.{starred-posts}
 use Rattle.guarantees_starred.specs.Posts.{rearm-known}
-use Rattle.printed_lines.specs.Lines.{spaced, line, refusal-line, yes-line, accepted-line, direction-mark, channel-line, step-line, step-lines, departure-lines}
-use Rattle.printed.specs.Prints.{zeros, entries, counted-bytes, widest-line, search-lines, megzhoi-prints, table-printed, widest-prints, check-line, recheck-prints}
+use Rattle.printed_lines.specs.Lines.{spaced, line, refusal-line, yes-line, passed-line, accepted-line, direction-mark, channel-line, step-line, step-lines, departure-lines}
+use Rattle.printed.specs.Prints.{zeros, entries, counted-bytes, widest-line, search-lines, megzhoi-prints, table-printed, widest-prints, check-line, recheck-prints, verdict-line, implementation-prints}
 use Rattle.printed.specs.Fits.{zeros-length}
 use Rattle.printed_examples.specs.Lines.{Lines}
 
@@ -72,7 +72,7 @@ post-file room h =
     rw (made, table, starred-posts .post-states, file-size) refl
 
 pub printed-posts : Lines
-unfolding recheck-prints check-line accepted-line refusal-line line spaced decimal digits digit
+unfolding recheck-prints check-line implementation-prints verdict-line passed-line accepted-line refusal-line line spaced decimal digits digit
 printed-posts = record {
   rearm-departs = rearm-lines;
   post-refines = post-lines;
@@ -80,4 +80,7 @@ printed-posts = record {
   post-table = post-file;
   diagonal-accepted = ap check-line (starred-posts .diagonal (zeros keep-limit) keep-enough);
   start-refused = ap check-line (starred-posts .start-only (zeros keep-limit) keep-enough);
+  post-implementation = ap verdict-line (starred-posts .post-passes);
+  loose-implementation = ap verdict-line (starred-posts .loose-beside);
+  hush-implementation = ap verdict-line (starred-posts .hush-neither);
 }

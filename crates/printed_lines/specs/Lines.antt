@@ -1,4 +1,4 @@
--- The lines that the programs print, as bytes (SPECIFICATION 14.2, 14.3, 14.5).
+-- The lines that the programs print, as bytes (SPECIFICATION 14.2, 14.3, 14.5, 14.7).
 use mathlib.Core.Bool.{cond}
 use mathlib.Core.List.{List, [], _∷_, _++_}
 use Prim.Native.Nat.{ℕ, _-_}
@@ -29,6 +29,10 @@ refusal-line f = line (ascii "REFUSED") (f .code ∷ f .file ∷ f .p ∷ f .q �
 -- `YES count`, with the pairs of the widest table
 unfoldable pub yes-line : ℕ → List ℕ
 yes-line count = line (ascii "YES") (count ∷ [])
+
+-- `YES` alone, for a text that is an implementation
+unfoldable pub passed-line : List ℕ
+passed-line = line (ascii "YES") []
 
 -- `ACCEPTED count`, with the pairs of a table that is checked
 unfoldable pub accepted-line : ℕ → List ℕ

@@ -15,7 +15,7 @@ ghost use Rattle.pairing.specs.Channels.{spelling};
 ghost use Rattle.tables_header.specs.Header.{ascii, decimal, space};
 ghost use Rattle.printed_lines.specs.Put.{Puts};
 ghost use Rattle.printed_lines.specs.Room.{most-digits, line-limit};
-ghost use Rattle.printed_lines.specs.Lines.{line, refusal-line, yes-line, accepted-line};
+ghost use Rattle.printed_lines.specs.Lines.{line, refusal-line, yes-line, passed-line, accepted-line};
 ghost use Rattle.printed_lines.specs.Lines.{direction-mark, channel-line, step-line, step-lines, departure-lines};
 
 // The base of the numbers, and what stands between and behind them.
@@ -109,6 +109,15 @@ pub fn put_yes(out: &mut [u8], at: usize, count: usize) -> usize
     ensures { λ _. ⌜ length (yes-line count) ≤ line-limit ⌝ }
 {
     put_count(out, at, b"YES", count)
+}
+
+// YES alone, for a text that is an implementation.
+pub fn put_passed(out: &mut [u8], at: usize) -> usize
+    ensures { λ r. ⌜ Puts (now (out .entry)) at passed-line (now (out .exit)) r ⌝ }
+    ensures { λ _. ⌜ length passed-line ≤ line-limit ⌝ }
+{
+    let end = put_bytes(out, at, b"YES");
+    put_byte(out, end, LINE_END)
 }
 
 // ACCEPTED and the number of the checked table's pairs.

@@ -1,5 +1,6 @@
--- What program megzhoi's lines mean, for any two files (SPECIFICATION 14.2, 14.4, 17.5). Definitions only: Program.antt
--- proves it.
+-- What program megzhoi's lines mean, for any two files (SPECIFICATION 14.2, 14.4, 17.5), and what program
+-- implementation's line means, for any file (SPECIFICATION 14.7, 17.8). Definitions only: Program.antt and
+-- Implementation.antt prove it.
 use mathlib.Core.Path.{_≡_}
 use mathlib.Core.Bool.{true}
 use mathlib.Core.Option.{some}
@@ -8,15 +9,19 @@ use Prim.Native.Nat.{ℕ, _*_, _≤_, _<_}
 use lib.ListN.{length}
 use Rattle.limits.specs.Limits.{keep-limit}
 use Rattle.refusals.specs.declared.Refusal.{Refusal}
-use Rattle.refusals.specs.Refusals.{queue-too-short, start-not-safe}
+use Rattle.refusals.specs.Refusals.{queue-too-short, start-not-safe, output-beside-tick, neither-possible}
+use Rattle.refusals.specs.declared.Verdict.the-variants as verdict
 use Rattle.systems.specs.Definitions.{Implementation, Satisfies, Makes, Allows}
+use Rattle.reachable.specs.declared.Finding.the-variants.{OutputBesideTick, NeitherPossible}
+use Rattle.reachable.specs.Meaning.{Is-implementation, Says, Own-implementation}
 use Rattle.clocks.specs.Contract.{signature}
+use Rattle.clocks_read.specs.Reading.{read-outcome}
 use Rattle.two_texts.specs.Two.{text-of, two-judged}
 use Rattle.tables.specs.declared.WidestAnswer.the-variants.{Made}
 use Rattle.two_operations.specs.Outcome.{widest-outcome}
 use Rattle.demands.specs.Words.{Consistent}
 use Rattle.guarantees.specs.Texts.{Accepted-text, Equal-channels, states, meaning, number, right-meaning}
-use Rattle.printed_lines.specs.Lines.{refusal-line, yes-line, departure-lines}
+use Rattle.printed_lines.specs.Lines.{refusal-line, yes-line, passed-line, departure-lines}
 use Rattle.printed.specs.Prints.{zeros, entries, counted-bytes}
 
 -- for two accepted texts, by what they mean over uncapped clocks
@@ -60,3 +65,19 @@ pub data Answers (left right printed : List ℕ) : Type 1 where
       → ((v : List ℕ) → Shows left right a b v → length w ≤ length v)
       → printed ≡ departure-lines left (text-of left .channels) (length w) w
       → Answers left right printed
+
+-- what program implementation prints, and what it means
+pub data Implementation-answers (left printed : List ℕ) : Type 1 where
+  -- one of the codes 1 to 11, as reading gives them
+  unread : (r : Refusal) → read-outcome left .answer ≡ verdict.Refused r → printed ≡ refusal-line r
+      → Implementation-answers left printed
+  -- 22: the lowest state with a fault that a run leads to has output c beside the tick, its lowest one
+  both : (a : Accepted-text left) (s c : ℕ) → Says (meaning left a) (number left a) (OutputBesideTick s c)
+      → printed ≡ refusal-line (output-beside-tick s c) → Implementation-answers left printed
+  -- 23: that state has neither
+  neither : (a : Accepted-text left) (s : ℕ) → Says (meaning left a) (number left a) (NeitherPossible s)
+      → printed ≡ refusal-line (neither-possible s) → Implementation-answers left printed
+  -- YES: the text is an implementation with its reachable states, which satisfies the text
+  passed : (a : Accepted-text left) → Is-implementation (meaning left a)
+      → Own-implementation (meaning left a) (number left a) → printed ≡ passed-line
+      → Implementation-answers left printed

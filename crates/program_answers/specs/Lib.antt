@@ -1,3 +1,4 @@
 pub mod Answers
 pub mod Fits
 pub mod Program
+pub mod Implementation

@@ -1,9 +1,10 @@
-// Calls of the five operations with long, exact and short slices, what the enumerator says of each, and a tally of answers
+// Calls of the six operations with long, exact and short slices, what the enumerator says of each, and a tally of answers
 // and differences: the answer counts, and every byte and entry that is lent. Proved safe and ending, no more.
 use enumerator::moves::ACCEPTED;
 use enumerator::moves::ROW;
 use enumerator::moves::accepted;
 use enumerator::moves::is_safe;
+use enumerator::moves::same;
 use enumerator::numbers::byte;
 use enumerator::numbers::get;
 use enumerator::numbers::number_of;
@@ -44,18 +45,20 @@ use tables::CheckAnswer;
 use tables::WidestAnswer;
 ghost use Prim.Native.Nat.{_≤_};
 
-// Entries of the tally: calls by code, from 0 for accepted to 21, then these.
-pub const DIFFERENCES: usize = 22;
+// Entries of the tally: calls by code, from 0 for accepted to 23, then these.
+pub const DIFFERENCES: usize = 24;
 
-pub const DEPARTURES: usize = 23;
+pub const DEPARTURES: usize = 25;
 
-pub const NO_DEPARTURE: usize = 24;
+pub const NO_DEPARTURE: usize = 26;
 
-pub const WITH_START: usize = 25;
+pub const WITH_START: usize = 27;
 
-pub const LEFT_OUT: usize = 26;
+pub const IMPLEMENTATIONS: usize = 28;
 
-pub const TALLY: usize = 27;
+pub const LEFT_OUT: usize = 29;
+
+pub const TALLY: usize = 30;
 
 // Texts of more states are left out.
 const STATES: usize = 512;
@@ -142,10 +145,6 @@ fn done(n: usize, flag: bool) -> Refusal {
         p: n,
         q: number_of(flag),
     }
-}
-
-fn same(a: Refusal, b: Refusal) -> bool {
-    a.code == b.code && a.file == b.file && a.p == b.p && a.q == b.q
 }
 
 fn fill_bytes(s: &mut [u8], seed: u32) {
@@ -333,6 +332,22 @@ fn safe_case(text: &[u8], r: Reading, rows: &[u32], seed: u32, tally: &mut [usiz
     let got = safe_call(text, &mut keep, k);
     let kept = is_kept(&keep, rows, r.states, expected, seed);
     count_call(tally, expected, kept && same(expected, got));
+}
+
+// An accepted answer has the number n.
+fn answer_of(answer: Verdict, n: usize) -> Refusal {
+    match answer {
+        Verdict::Refused(f) => f,
+        Verdict::Accepted => done(n, false),
+    }
+}
+
+// Nothing is lent: the answer counts alone.
+fn implementation_case(text: &[u8], r: Reading, tally: &mut [usize]) {
+    let expected = enumerator::reached::implementation(r);
+    let got = answer_of(operations::implementation(text), 0);
+    count_call(&mut *tally, expected, same(expected, got));
+    add(tally, IMPLEMENTATIONS, expected.code == ACCEPTED);
 }
 
 fn refused_if(is_refused: bool, f: Refusal) -> Refusal {
@@ -612,10 +627,9 @@ fn two_cases(
     table_cases(left, right, c, l, &r, tally);
 }
 
-// All operations on a text and, where there are few enough pairs of states, on two.
-pub fn all_cases(left: &[u8], right: &[u8], seed: u32, tally: &mut [usize]) {
-    let a = enumerator::safe::read(left);
-    let b = enumerator::safe::read(right);
+// The operations that are lent slices: safe states of the left and, where there are few enough pairs of states, those on two
+// texts.
+fn lent_cases(left: &[u8], right: &[u8], a: Reading, b: Reading, seed: u32, tally: &mut [usize]) {
     let pairs = times(a.states, b.states);
     if STATES < a.states {
         add(tally, LEFT_OUT, true);
@@ -629,6 +643,15 @@ pub fn all_cases(left: &[u8], right: &[u8], seed: u32, tally: &mut [usize]) {
         return;
     }
     two_cases(left, right, a, b, &l, seed, tally);
+}
+
+// All operations but reading, on two texts; the implementation check on each of them.
+pub fn all_cases(left: &[u8], right: &[u8], seed: u32, tally: &mut [usize]) {
+    let a = enumerator::safe::read(left);
+    let b = enumerator::safe::read(right);
+    implementation_case(left, a, &mut *tally);
+    implementation_case(right, b, &mut *tally);
+    lent_cases(left, right, a, b, seed, tally);
 }
 
 fn has_counts(t: Text, channels: usize, clocks: usize, locations: usize, edges: usize) -> bool {
@@ -661,13 +684,6 @@ fn is_counted(t: Text, code: usize, g: Shape, p: Pen) -> bool {
     has_counts(t, channels(g), clocks(g), locations(g), p.edges)
 }
 
-fn read_answer(answer: Verdict, states: usize) -> Refusal {
-    match answer {
-        Verdict::Refused(f) => f,
-        Verdict::Accepted => done(states, false),
-    }
-}
-
 // Reading: the answer, the number of states and the counts of the record.
 pub fn read_case(text: &[u8], g: Shape, p: Pen, is_damaged: bool, tally: &mut [usize]) {
     let r = enumerator::safe::read(text);
@@ -678,7 +694,7 @@ pub fn read_case(text: &[u8], g: Shape, p: Pen, is_damaged: bool, tally: &mut [u
     let reading = operations::read(text);
     let t = reading.text;
     let answer = reading.answer;
-    let got = read_answer(answer, reading.states);
+    let got = answer_of(answer, reading.states);
     let counted = is_counted(t, got.code, g, p);
     let known = is_known(got, p);
     let is_right = is_damaged || counted && known;

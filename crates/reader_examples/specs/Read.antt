@@ -1,4 +1,4 @@
--- The six posts (SPECIFICATION 16.1) read to their records: computed by the definition of reading.
+-- The eight posts (SPECIFICATION 16.1) read to their records: computed by the definition of reading.
 use mathlib.Core.Path.{_≡_, refl}
 use mathlib.Core.List.{List}
 use Prim.Native.Nat.{ℕ}
@@ -6,8 +6,8 @@ use Rattle.reader_record.specs.declared.Text.{Text}
 use Rattle.refusals.specs.declared.Verdict.the-variants.{Accepted}
 use Rattle.reader.specs.Reading.{read-text}
 use Rattle.reader_examples.specs.Opened.{opened}
-use Rattle.reader_examples.specs.Texts.{post, rearm, early, strict, hush, idle}
-use Rattle.reader_examples.specs.Records.{post-record, rearm-record, early-record, strict-record, hush-record, idle-record}
+use Rattle.reader_examples.specs.Texts.{post, rearm, early, strict, loose, hush, idle, spare}
+use Rattle.reader_examples.specs.Records.{post-record, rearm-record, early-record, strict-record, loose-record, hush-record, idle-record, spare-record}
 
 abbrev pub Reads-to : List ℕ → Text → Type 0
 Reads-to s t = read-text s ≡ record { answer = Accepted; text = t }
@@ -35,3 +35,11 @@ hush-read = refl
 pub idle-read : Reads-to idle idle-record
 unfolding opened
 idle-read = refl
+
+pub loose-read : Reads-to loose loose-record
+unfolding opened
+loose-read = refl
+
+pub spare-read : Reads-to spare spare-record
+unfolding opened
+spare-read = refl

@@ -1,4 +1,4 @@
--- The records of the six texts, written out: the names by byte place and length, clocks and locations from 0, channels
+-- The records of the eight texts, written out: the names by byte place and length, clocks and locations from 0, channels
 -- from 1.
 use mathlib.Core.Bool.{Bool, true, false}
 use mathlib.Core.List.{List, [], _∷_, _++_}
@@ -12,6 +12,7 @@ use Rattle.reader_record.specs.declared.Channel.{Channel}
 use Rattle.reader_record.specs.declared.Sign.{Sign}
 use Rattle.reader_record.specs.declared.Sign.the-variants.{AtMost, AtLeast, Less, Greater}
 use Rattle.reader_record.specs.declared.Constraint.{Constraint}
+use Rattle.reader_record.specs.declared.Location.{Location}
 use Rattle.reader_record.specs.declared.Label.{Label}
 use Rattle.reader_record.specs.declared.Label.the-variants.{Input, Output}
 use Rattle.reader_record.specs.declared.Edge.{Edge}
@@ -48,50 +49,70 @@ edge source target guard label reset =
       resets = filled clock-limit false (reset ∷ []);
     }
 
--- what the six texts have in common: the direction of `late`, the
--- invariant of Wait, the name Done and the edges differ
-abbrev marker : Direction → Constraint → Name → List Edge → Text
-marker late wait done es = record {
+abbrev location : Name → Constraint → Location
+location name invariant = record { name = name; invariant = invariant }
+
+-- what the texts have in common: the direction of `late`, the locations and the edges differ
+abbrev marker : Direction → List Location → List Edge → Text
+marker late ls es = record {
   channels =
       filled channel-limit no-channel
       (channel (at 15 4) direction.Input ∷ channel (at 21 5) direction.Input ∷ channel (at 28 4) late ∷ []);
   «channel_count» = 3;
   clocks = filled clock-limit no-name (at 57 1 ∷ []);
   «clock_count» = 1;
-  locations =
-      filled location-limit (record { name = no-name; invariant = blank-constraint })
-      (record { name = at 66 4; invariant = wait } ∷ record { name = done; invariant = blank-constraint } ∷ []);
-  «location_count» = 2;
+  locations = filled location-limit (location no-name blank-constraint) ls;
+  «location_count» = length ls;
   init = 0;
   edges = filled edge-limit blank-edge es;
   «edge_count» = length es;
 }
 
--- Post and three others: the invariant of Wait, the name Done, whether `spike` resets x, and the guard of `late` differ
-abbrev timed : Constraint → Name → Bool → Constraint → Text
-timed wait done spike late =
-    marker direction.Output wait done
-    (edge 0 1 blank-constraint (Input 1) false
+-- Wait with its invariant, and Done at a place in the text
+abbrev wait-done : Constraint → ℕ → List Location
+wait-done wait done = location (at 66 4) wait ∷ location (at done 4) blank-constraint ∷ []
+
+-- the edges of Wait and Done: whether `spike` resets x, and the guard of `late`
+abbrev timed-edges : Bool → Constraint → List Edge
+timed-edges spike late =
+    edge 0 1 blank-constraint (Input 1) false
     ∷ edge 0 0 blank-constraint (Input 2) spike
     ∷ edge 0 1 late (Output 3) false
     ∷ edge 1 1 blank-constraint (Input 1) false
     ∷ edge 1 1 blank-constraint (Input 2) false
-    ∷ [])
+    ∷ []
+
+-- Post and four others: the invariant of Wait, the place of Done, and the two edges differ
+abbrev timed : Constraint → ℕ → Bool → Constraint → Text
+timed wait done spike late = marker direction.Output (wait-done wait done) (timed-edges spike late)
 
 abbrev pub post-record : Text
-post-record = timed (x-is AtMost 3) (at 83 4) false (x-is AtLeast 3)
+post-record = timed (x-is AtMost 3) 83 false (x-is AtLeast 3)
 
 -- the second edge resets x
 abbrev pub rearm-record : Text
-rearm-record = timed (x-is AtMost 3) (at 83 4) true (x-is AtLeast 3)
+rearm-record = timed (x-is AtMost 3) 83 true (x-is AtLeast 3)
 
 -- both constants are 2
 abbrev pub early-record : Text
-early-record = timed (x-is AtMost 2) (at 83 4) false (x-is AtLeast 2)
+early-record = timed (x-is AtMost 2) 83 false (x-is AtLeast 2)
 
 -- strict signs, and Done stands a byte earlier in the text
 abbrev pub strict-record : Text
-strict-record = timed (x-is Less 4) (at 82 4) false (x-is Greater 2)
+strict-record = timed (x-is Less 4) 82 false (x-is Greater 2)
+
+-- the guard of `late` has the bound 2
+abbrev pub loose-record : Text
+loose-record = timed (x-is AtMost 3) 83 false (x-is AtLeast 2)
+
+-- Off with its invariant, and an edge from it to itself for each input
+abbrev pub spare-record : Text
+spare-record =
+    marker direction.Output (wait-done (x-is AtMost 3) 83 ++ location (at 89 3) (x-is AtMost 0) ∷ [])
+    (timed-edges false (x-is AtLeast 3)
+    ++ edge 2 2 blank-constraint (Input 1) false
+    ∷ edge 2 2 blank-constraint (Input 2) false
+    ∷ [])
 
 abbrev hushed : List Edge
 hushed =
@@ -103,8 +124,8 @@ hushed =
 
 -- no edge names `late`
 abbrev pub hush-record : Text
-hush-record = marker direction.Unused (x-is AtMost 3) (at 83 4) hushed
+hush-record = marker direction.Unused (wait-done (x-is AtMost 3) 83) hushed
 
 -- no invariant, so that Done stands earlier in the text
 abbrev pub idle-record : Text
-idle-record = marker direction.Unused blank-constraint (at 72 4) hushed
+idle-record = marker direction.Unused (wait-done blank-constraint 72) hushed

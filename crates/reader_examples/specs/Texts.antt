@@ -1,4 +1,4 @@
--- The six posts (SPECIFICATION 16.1), byte by byte.
+-- The eight posts (SPECIFICATION 16.1), byte by byte.
 use mathlib.Core.List.{List, [], _∷_, _++_}
 use Prim.Native.Nat.{ℕ}
 use Prim.Native.Char.{code}
@@ -10,7 +10,7 @@ abbrev pub lines : List String → List ℕ
 lines [] = []
 lines (l ∷ ls) = bytes l ++ (code "\n" ∷ lines ls)
 
--- what Post and three others have in common: the locations, the edge of `spike` from Wait and that of `late` differ
+-- what Post and four others have in common: the locations, the edge of `spike` from Wait and that of `late` differ
 abbrev marker : String → String → String → List ℕ
 marker locations spike late =
     lines
@@ -60,6 +60,14 @@ strict =
     "Wait -> Wait { sync spike?; },"
     "Wait -> Done { guard x > 2; sync late!; },"
 
+-- `late` from tick 2 on, beside the tick (SPECIFICATION 16.1, 16.8)
+abbrev pub loose : List ℕ
+loose =
+    marker
+    "state Wait { x <= 3 }, Done;"
+    "Wait -> Wait { sync spike?; },"
+    "Wait -> Done { guard x >= 2; sync late!; },"
+
 -- the third edge is left out (SPECIFICATION 16.1)
 abbrev pub hush : List ℕ
 hush =
@@ -92,6 +100,27 @@ idle =
     ∷ "Wait -> Wait { sync spike?; },"
     ∷ "Done -> Done { sync pass?; },"
     ∷ "Done -> Done { sync spike?; };"
+    ∷ "}"
+    ∷ "system Post;"
+    ∷ [])
+
+-- a third location, which no edge leads to (SPECIFICATION 16.1, 16.8)
+abbrev pub spare : List ℕ
+spare =
+    lines
+    ("broadcast chan pass, spike, late;"
+    ∷ "process Post() {"
+    ∷ "clock x;"
+    ∷ "state Wait { x <= 3 }, Done, Off { x <= 0 };"
+    ∷ "init Wait;"
+    ∷ "trans"
+    ∷ "Wait -> Done { sync pass?; },"
+    ∷ "Wait -> Wait { sync spike?; },"
+    ∷ "Wait -> Done { guard x >= 3; sync late!; },"
+    ∷ "Done -> Done { sync pass?; },"
+    ∷ "Done -> Done { sync spike?; },"
+    ∷ "Off -> Off { sync pass?; },"
+    ∷ "Off -> Off { sync spike?; };"
     ∷ "}"
     ∷ "system Post;"
     ∷ [])

@@ -1,1 +1,1 @@
-// Theorems only: the five posts (SPECIFICATION 16.1), and refusals, read by the definition.
+// Theorems only: the eight posts (SPECIFICATION 16.1), and refusals, read by the definition.

@@ -1,5 +1,6 @@
 -- Refusals: a definition a row of the table in SPECIFICATION 13.1, with the file marks of SPECIFICATION 13.2. Codes 1
--- to 11 are those of the left or only text. Each comment names the code and cites the clause that says when it comes.
+-- to 11, 22 and 23 are those of the left or only text. Each comment names the code and cites the clause that says when
+-- it comes.
 use Prim.Native.Nat.{ℕ, _+_, _*_}
 use Rattle.refusals.specs.declared.Refusal.{Refusal}
 
@@ -100,3 +101,11 @@ rule-broken width step s t = record { code = 20; file = no-file; p = step; q = s
 -- 21: a departure that is longer than the run slice (SPECIFICATION 12.4)
 abbrev pub run-too-short : ℕ → Refusal
 run-too-short n = record { code = 21; file = no-file; p = n; q = 0 }
+
+-- 22: a reachable state in which an output and a tick are both possible (SPECIFICATION 12.9)
+abbrev pub output-beside-tick : ℕ → ℕ → Refusal
+output-beside-tick state channel = record { code = 22; file = left-file; p = state; q = channel }
+
+-- 23: a reachable state in which neither is possible (SPECIFICATION 12.9)
+abbrev pub neither-possible : ℕ → Refusal
+neither-possible state = record { code = 23; file = left-file; p = state; q = 0 }

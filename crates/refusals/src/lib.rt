@@ -3,7 +3,7 @@ use steps::Step;
 ghost use mathlib.Core.Path.{_≡_};
 ghost use Prim.Native.Nat.{_≤_, _<_};
 ghost use Rattle.limits.specs.Limits.{state-limit};
-ghost use Rattle.refusals.specs.Refusals.{in-file, text-too-long, misfit, name-too-long, declared-before, unknown-name, constant-too-large, too-many-items, other-mark, too-many-states, input-without-move, two-edges, unmatched-channel, keep-too-short, table-too-short, queue-too-short, other-table, start-not-safe, start-pair-not-set, pair-not-allowed, rule-broken, run-too-short};
+ghost use Rattle.refusals.specs.Refusals.{in-file, text-too-long, misfit, name-too-long, declared-before, unknown-name, constant-too-large, too-many-items, other-mark, too-many-states, input-without-move, two-edges, unmatched-channel, keep-too-short, table-too-short, queue-too-short, other-table, start-not-safe, start-pair-not-set, pair-not-allowed, rule-broken, run-too-short, output-beside-tick, neither-possible};
 
 // The file that a refusal concerns: the left or only text, the right text, or none (SPECIFICATION 13.2).
 pub const LEFT_FILE: usize = 1;
@@ -12,7 +12,7 @@ pub const RIGHT_FILE: usize = 2;
 
 pub const NO_FILE: usize = 0;
 
-// `code` is 1 to 21; `file` is one of the marks above.
+// `code` is 1 to 23; `file` is one of the marks above.
 pub struct Refusal {
     pub code: usize,
     pub file: usize,
@@ -267,6 +267,28 @@ impl Refusal {
             code: 21,
             file: NO_FILE,
             p: n,
+            q: 0,
+        }
+    }
+
+    pub fn output_beside_tick(state: usize, channel: usize) -> Refusal
+        ensures { λ r. ⌜ r ≡ output-beside-tick state channel ⌝ }
+    {
+        Refusal {
+            code: 22,
+            file: LEFT_FILE,
+            p: state,
+            q: channel,
+        }
+    }
+
+    pub fn neither_possible(state: usize) -> Refusal
+        ensures { λ r. ⌜ r ≡ neither-possible state ⌝ }
+    {
+        Refusal {
+            code: 23,
+            file: LEFT_FILE,
+            p: state,
             q: 0,
         }
     }

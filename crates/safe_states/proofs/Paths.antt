@@ -1,5 +1,5 @@
 -- The ends of the code's paths.
-use mathlib.Core.Path.{_≡_, refl, sym, ap, _∙_}
+use mathlib.Core.Path.{_≡_, ap, _∙_}
 use mathlib.Core.Bool.{Bool, true, false}
 use mathlib.Core.List.{List}
 use Prim.Native.Nat.{ℕ, _+_, _/_, _≤_, _<_}
@@ -24,12 +24,11 @@ use Rattle.clocks.specs.Judgement.{judgement-few}
 use Rattle.clocks.specs.Contract.{system}
 use Rattle.clocks.specs.Encoded.{table-bounded, table-encoded, bits-bitmap, bits-start, safe-states-same, length-invariants, length-safe}
 use Rattle.clocks_safe.specs.Settle.{Safe-answer}
-use Rattle.clocks_table.specs.Judge.{judge-room}
 use Rattle.refusals.specs.declared.Verdict.the-variants as verdict
 use Rattle.clocks_read.specs.declared.Reading.{Reading}
 use Rattle.clocks_read.specs.Reading.{read-outcome}
-use Rattle.clocks_read.specs.Loading.{Loading, load-outcome, loading}
-use Rattle.clocks_read.specs.Laws.{read-accepted, load-reading, load-moves, load-holds}
+use Rattle.clocks_read.specs.Loading.{load-outcome, loading}
+use Rattle.clocks_read.specs.Loaded.{answer-is, text-is, record-accepted, states-are, slices-filled}
 use Rattle.safe_states.specs.declared.SafeAnswer.the-variants.{Found, Refused}
 use Rattle.safe_states.specs.Outcome.{Outcome, refused, found-outcome, kept-outcome, answered, safe-outcome}
 use Rattle.limits.specs.Limits.{state-limit, step-limit}
@@ -77,72 +76,40 @@ module _ {t : Text} {n : ℕ} {moves holds keep : List ℕ} (R : Ready t n moves
 
 -- the paths after the text is read and the slices are filled
 module _ (s k m h : List ℕ) (r : Reading) (m′ h′ : List ℕ) (e : loading r m′ h′ ≡ load-outcome s m h) where
-  reading-is : r ≡ read-outcome s
-  reading-is = ap (λ (l : Loading). l .reading) e ∙ load-reading s m h
-
   pub safe-refused : (f : Refusal) → r .answer ≡ verdict.Refused f → refused (Refused f) k ≡ safe-outcome s k
   unfolding safe-outcome answered
-  safe-refused f a = rw (sym (ap (λ (x : Reading). x .answer) reading-is) ∙ a)
+  safe-refused f a = rw (answer-is s m h r m′ h′ e (verdict.Refused f) a)
 
   module _ (a : r .answer ≡ verdict.Accepted) where
-    pub is-accepted : read-outcome s .answer ≡ verdict.Accepted
-    is-accepted = sym (ap (λ (x : Reading). x .answer) reading-is) ∙ a
-
-    text-is : r .text ≡ read-outcome s .text
-    text-is = ap (λ (x : Reading). x .text) reading-is
-
-    states-are : r .states ≡ state-count (read-outcome s .text)
-    states-are = ap (λ (x : Reading). x .states) reading-is ∙ read-accepted s is-accepted .states
-
-    pub few-states : r .states ≤ state-limit
-    few-states = omega (
-      arith,
-      states-are,
-      judgement-few (read-outcome s .text)
-          (read-accepted s is-accepted .accepted .clean),
-    )
-
-    outcome-is : safe-outcome s k ≡ kept-outcome (read-outcome s .text) k
+    outcome-is : safe-outcome s k ≡ kept-outcome (r .text) k
     unfolding safe-outcome answered
-    outcome-is = rw is-accepted
+    outcome-is = rw (answer-is s m h r m′ h′ e verdict.Accepted a, text-is s m h r m′ h′ e)
 
     -- keep is judged by the bytes that it needs
     module _ (need : ℕ) (n : need ≡ bytes-for (r .states)) where
-      bytes-are : need ≡ bytes-for (state-count (read-outcome s .text))
-      bytes-are = n ∙ ap bytes-for states-are
+      bytes-are : need ≡ bytes-for (state-count (r .text))
+      bytes-are = n ∙ ap bytes-for (states-are s m h r m′ h′ e a)
 
       pub safe-short : length k < need → (f : Refusal) → f ≡ keep-too-short need
           → refused (Refused f) k ≡ safe-outcome s k
       unfolding kept-outcome
       safe-short l f e =
-          let q : ltb (length k) (bytes-for (state-count (read-outcome s .text))) ≡ true =
-          lt-ltb (length k) (bytes-for (state-count (read-outcome s .text))) (rw bytes-are at l) in
+          let q : ltb (length k) (bytes-for (state-count (r .text))) ≡ true =
+          lt-ltb (length k) (bytes-for (state-count (r .text))) (rw bytes-are at l) in
           rw (outcome-is, e, bytes-are) (rw (q, kept-outcome))
 
       pub safe-found : need ≤ length k → (o : Outcome) → o ≡ found-outcome (r .text) k → o ≡ safe-outcome s k
       unfolding kept-outcome
       safe-found l o f =
-          let q : ltb (length k) (bytes-for (state-count (read-outcome s .text))) ≡ false =
-          le-ltb (length k) (bytes-for (state-count (read-outcome s .text))) (rw bytes-are at l) in
-          f ∙ ap (λ (t : Text). found-outcome t k) text-is ∙ rw outcome-is (rw (q, kept-outcome))
+          let q : ltb (length k) (bytes-for (state-count (r .text))) ≡ false =
+          le-ltb (length k) (bytes-for (state-count (r .text))) (rw bytes-are at l) in
+          f ∙ rw outcome-is (rw (q, kept-outcome))
 
-      pub safe-ready : need ≤ length k → (m₀ : ℕ) → m₀ ≡ state-count (read-outcome s .text) → Room m₀ (length m) (length h)
-          → Ready (r .text) (r .states) m′ h′ k
-      safe-ready p m₀ q l =
-          let w = read-accepted s is-accepted .accepted in
-          let t = read-outcome s .text in
-          let c = judgement-few t (w .clean) in
-          let room = judge-room t (w .formed) m₀ q (omega arith) _ _ l in
-          rw (text-is, states-are) (record {
-            accepted = w;
-            count = refl;
-            filled = record {
-              over = m;
-              room = room .0;
-              moves-are = ap (λ (x : Loading). x .moves) e ∙ load-moves s m h is-accepted;
-              under = h;
-              long = room .1;
-              holds-are = ap (λ (x : Loading). x .holds) e ∙ load-holds s m h is-accepted;
-            };
-            long = rw bytes-are at p;
-          })
+      pub safe-ready : need ≤ length k → (m₀ : ℕ) → m₀ ≡ state-count (read-outcome s .text)
+          → Room m₀ (length m) (length h) → Ready (r .text) (r .states) m′ h′ k
+      safe-ready p m₀ q l = record {
+        accepted = record-accepted s m h r m′ h′ e a;
+        count = states-are s m h r m′ h′ e a;
+        filled = slices-filled s m h r m′ h′ e a m₀ q l;
+        long = rw bytes-are at p;
+      }

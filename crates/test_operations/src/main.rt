@@ -1,4 +1,4 @@
-// Runs the calls of data/cases through the five operations and prints each answer with everything that is lent.
+// Runs the calls of data/cases through five of the operations and prints each answer with everything that is lent.
 // tests/make_cases.py writes the calls and, from an independent reading of docs/SPECIFICATION.md, the expected output.
 //
 // A record of the file is a letter, six numbers and bytes. `T` gives the two texts of the calls that follow: the length of

@@ -1,10 +1,11 @@
-// Small random texts and pairs of them through the five operations, compared with the plain enumerator: the answers and
+// Small random texts and pairs of them through the six operations, compared with the plain enumerator: the answers and
 // everything that is lent. Prints one line: the calls by kind of answer, and the differences, which are 0.
 use enumerator::moves::ACCEPTED;
 use libc::STDOUT_FILENO;
 use limits::LARGEST_TEXT;
 use random_calls::DEPARTURES;
 use random_calls::DIFFERENCES;
+use random_calls::IMPLEMENTATIONS;
 use random_calls::LEFT_OUT;
 use random_calls::NO_DEPARTURE;
 use random_calls::TALLY;
@@ -146,6 +147,7 @@ fn main() {
     put_entry(b", departures ", &tally, DEPARTURES);
     put_entry(b", none ", &tally, NO_DEPARTURE);
     put_entry(b", start pairs ", &tally, WITH_START);
+    put_entry(b", implementations ", &tally, IMPLEMENTATIONS);
     put_entry(b", left out ", &tally, LEFT_OUT);
     put_entry(b", accepted ", &tally, ACCEPTED);
     programs::put(b", refused");

@@ -7,6 +7,7 @@ use std::mem::transmute;
 
 type Read = unsafe extern "C" fn(*const u8, usize, *mut usize, usize, *mut usize, *mut usize, *mut usize) -> usize;
 type SafeStates = unsafe extern "C" fn(*const u8, usize, *mut u8, usize, *mut usize, *mut usize, *mut usize) -> usize;
+type Implementation = unsafe extern "C" fn(*const u8, usize, *mut usize, *mut usize, *mut usize) -> usize;
 #[rustfmt::skip]
 type Search = unsafe extern "C" fn(
     *const u8, usize, *const u8, usize, *mut u8, usize, *mut u32, usize, *mut u32, usize, *mut u32, usize,
@@ -21,11 +22,13 @@ type Widest = unsafe extern "C" fn(
     *const u8, usize, *const u8, usize, *mut u8, usize, *mut u8, usize, *mut usize, *mut usize, *mut usize,
 ) -> usize;
 
-/// The five functions of one build.
+/// The functions of one build.
 #[derive(Clone, Copy)]
 pub struct Build {
     read: Read,
     safe_states: SafeStates,
+    /// An older build may lack it.
+    implementation: Option<Implementation>,
     search: Search,
     check: Check,
     widest: Widest,
@@ -47,6 +50,7 @@ impl Build {
     pub const LINKED: Build = Build {
         read: raw::megzhoi_read,
         safe_states: raw::megzhoi_safe_states,
+        implementation: Some(raw::megzhoi_implementation),
         search: raw::megzhoi_search,
         check: raw::megzhoi_check,
         widest: raw::megzhoi_widest,
@@ -78,17 +82,21 @@ impl Build {
         // it is never closed, so its functions stay.
         let object = unsafe { dlopen(path.as_ptr(), RTLD_NOW) };
         assert!(!object.is_null(), "{} is no shared object", path.to_string_lossy());
-        let named = |name: &CStr| {
+        let find = |name: &CStr| {
             // SAFETY: the object is open and the name ends in a zero byte.
             let function = unsafe { dlsym(object, name.as_ptr()) };
-            assert!(!function.is_null(), "{} has no {}", path.to_string_lossy(), name.to_string_lossy());
-            function
+            (!function.is_null()).then_some(function)
         };
-        // SAFETY: every build has these functions with the types of megzhoi.h.
+        let named = |name: &CStr| {
+            find(name).unwrap_or_else(|| panic!("{} has no {}", path.to_string_lossy(), name.to_string_lossy()))
+        };
+        // SAFETY: the functions that a build has have the types of megzhoi.h.
         unsafe {
             Build {
                 read: transmute::<*mut c_void, Read>(named(c"megzhoi_read")),
                 safe_states: transmute::<*mut c_void, SafeStates>(named(c"megzhoi_safe_states")),
+                implementation: find(c"megzhoi_implementation")
+                    .map(|function| transmute::<*mut c_void, Implementation>(function)),
                 search: transmute::<*mut c_void, Search>(named(c"megzhoi_search")),
                 check: transmute::<*mut c_void, Check>(named(c"megzhoi_check")),
                 widest: transmute::<*mut c_void, Widest>(named(c"megzhoi_widest")),
@@ -110,6 +118,12 @@ impl Operations for Build {
         returned(|file, p, q| unsafe {
             (self.safe_states)(text.as_ptr(), text.len(), keep.as_mut_ptr(), keep.len(), file, p, q)
         })
+    }
+
+    fn implementation(&self, text: &[u8]) -> Option<Returned> {
+        let implementation = self.implementation?;
+        // SAFETY: as in `read`.
+        Some(returned(|file, p, q| unsafe { implementation(text.as_ptr(), text.len(), file, p, q) }))
     }
 
     #[rustfmt::skip]

@@ -1,4 +1,4 @@
-//! The five operations, whoever carries them out.
+//! The six operations, whoever carries them out.
 
 use crate::Returned;
 use plain::Refusal;
@@ -7,6 +7,9 @@ pub trait Operations {
     fn read(&self, text: &[u8], record: &mut [usize]) -> Returned;
 
     fn safe_states(&self, text: &[u8], keep: &mut [u8]) -> Returned;
+
+    /// `None` for an older build that does not have the operation.
+    fn implementation(&self, text: &[u8]) -> Option<Returned>;
 
     fn search(
         &self,
@@ -59,6 +62,10 @@ impl Operations for ByPairs {
         Returned::plainly(plain::safe_states(text, keep), |safe| (safe.count, usize::from(safe.start)))
     }
 
+    fn implementation(&self, text: &[u8]) -> Option<Returned> {
+        Some(Returned::plainly(plain::implementation(text), |()| (0, 0)))
+    }
+
     fn search(
         &self,
         left: &[u8],
@@ -88,6 +95,10 @@ impl Operations for ByRows {
 
     fn safe_states(&self, text: &[u8], keep: &mut [u8]) -> Returned {
         ByPairs.safe_states(text, keep)
+    }
+
+    fn implementation(&self, text: &[u8]) -> Option<Returned> {
+        ByPairs.implementation(text)
     }
 
     fn search(

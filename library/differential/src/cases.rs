@@ -1,7 +1,8 @@
 //! What one call is given: texts, lengths of the lent slices, a table.
 
 use texts::kinds::{departing, texts, Kind, KINDS};
-use texts::{at_a_limit, damaged, early, hush, idle, noise, post, rearm, strict, Model, Random};
+use texts::{at_a_limit, damaged, noise, passive, relay, urgent, Model, Random, Reach};
+use texts::{early, hush, idle, loose, post, rearm, spare, strict};
 
 /// Larger products are only tried with slices too short for them, to keep the run short.
 const PAIRS_LIMIT: usize = 520_000;
@@ -16,7 +17,23 @@ pub fn text(random: &mut Random) -> Vec<u8> {
         50..=74 => damaged(random),
         75..=89 => at_a_limit(random),
         90..=93 => noise(random),
-        _ => random.pick(&[post(), rearm(), early(), hush(), idle(), strict()]).clone(),
+        _ => random.pick(&[post(), rearm(), early(), hush(), idle(), strict(), loose(), spare()]).clone(),
+    }
+}
+
+/// One text for the implementation check: any one as above, one of a kind, one of up to 4,096 states of which all, few or
+/// a line are reached, or one that is an implementation or near one.
+pub fn text_to_judge(random: &mut Random) -> Vec<u8> {
+    match random.below(100) {
+        0..=39 => text(random),
+        40..=44 => two_of_a_kind(random).0,
+        45..=46 => {
+            let reach = *random.pick(&[Reach::All, Reach::Few, Reach::Fault]);
+            passive(random.between(3, 64), random.between(3, 16), reach)
+        }
+        47 => relay(random.between(2, 128)),
+        48..=64 => urgent(random, 5).text(random),
+        _ => urgent(random, 5).varied(random).text(random),
     }
 }
 

@@ -121,6 +121,13 @@ pub fn safe_states(random: &mut Random) -> Made {
     made
 }
 
+/// `None` where one of the two does not have the operation.
+pub fn implementation(other: &dyn Operations, text: Vec<u8>) -> Option<Made> {
+    let returned = Build::LINKED.implementation(&text)?;
+    let answer = other.implementation(&text)?;
+    Some(Made::new(returned, answer, vec![("text", text)], "no slices".to_string()))
+}
+
 /// The slices a search borrows.
 #[derive(Clone)]
 struct Borrowed {

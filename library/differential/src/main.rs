@@ -27,7 +27,13 @@ struct Operation {
     two_texts: bool,
 }
 
-const OPERATIONS: [Operation; 5] = [
+/// The places of some operations in `OPERATIONS`.
+const SEARCH: usize = 2;
+const CHECK: usize = 3;
+const WIDEST: usize = 4;
+const IMPLEMENTATION: usize = 5;
+
+const OPERATIONS: [Operation; 6] = [
     Operation { name: "read", call: compare::read, codes: &[0, 1, 2, 3, 4, 5, 6, 7, 8, 9, 10, 11], two_texts: false },
     Operation {
         name: "safe states",
@@ -53,6 +59,12 @@ const OPERATIONS: [Operation; 5] = [
         codes: &[0, 1, 2, 3, 4, 5, 6, 7, 8, 9, 10, 11, 12, 13, 14, 17],
         two_texts: true,
     },
+    Operation {
+        name: "implementation",
+        call: |random| compare::implementation(&ByPairs, cases::text_to_judge(random)).expect("both have it"),
+        codes: &[0, 1, 2, 3, 4, 5, 6, 7, 8, 9, 10, 11, 22, 23],
+        two_texts: false,
+    },
 ];
 
 /// A call on two texts, compared with another's.
@@ -66,21 +78,21 @@ fn on_two_texts(call: OnTwoTexts, random: &mut Random) -> Made {
 /// The calls made on each pair of texts to hold two builds against each other, by their place in `OPERATIONS`:
 /// one table is made, and several tables, whole and damaged ones, are checked.
 const ON_A_PAIR: [(usize, OnTwoTexts); 8] = [
-    (4, compare::widest),
-    (2, compare::search),
-    (3, compare::check),
-    (3, compare::check),
-    (3, compare::check),
-    (3, compare::check),
-    (3, compare::check),
-    (3, compare::check),
+    (WIDEST, compare::widest),
+    (SEARCH, compare::search),
+    (CHECK, compare::check),
+    (CHECK, compare::check),
+    (CHECK, compare::check),
+    (CHECK, compare::check),
+    (CHECK, compare::check),
+    (CHECK, compare::check),
 ];
 
 /// Under this many calls a code may be missing by chance.
 const ENOUGH: u64 = 50_000;
 
-/// How often each code occurred, by operation, code and file mark.
-type Counts = [[[u64; 3]; 22]; OPERATIONS.len()];
+/// How often each code occurred, by operation, code, with 0 for success, and file mark.
+type Counts = [[[u64; 3]; 1 + plain::codes::ALL.len()]; OPERATIONS.len()];
 
 fn number(name: &str, default: u64) -> u64 {
     std::env::var(name).map_or(default, |value| value.parse().expect("a number"))
@@ -146,17 +158,36 @@ fn run_before() -> ExitCode {
             passed_over += 1;
             continue;
         }
-        for (operation, call) in ON_A_PAIR {
-            if !agrees(&mut counts, operation, || call(random, &before, texts.clone())) {
-                println!("repeat with MEGZHOI_SEED={seed} MEGZHOI_PAIRS=1");
-                return ExitCode::FAILURE;
-            }
+        if !agrees_on_a_pair(&mut counts, &before, random, &texts) {
+            println!("repeat with MEGZHOI_SEED={seed} MEGZHOI_PAIRS=1");
+            return ExitCode::FAILURE;
         }
     }
     print_counts(&counts);
+    if !has_implementation(&before) {
+        println!("the older build has no implementation check, and that of this one was not compared");
+    }
     let compared = pairs - passed_over;
     println!("{compared} pairs of texts from seed {first}: no difference from the older build");
     ExitCode::SUCCESS
+}
+
+/// An older build may lack the implementation check; what it says of an empty text does not matter here.
+fn has_implementation(before: &Build) -> bool {
+    before.implementation(&[]).is_some()
+}
+
+/// The calls on two texts and, where the older build has it, the implementation check of both and of a third one.
+fn agrees_on_a_pair(counts: &mut Counts, before: &Build, random: &mut Random, texts: &(Vec<u8>, Vec<u8>)) -> bool {
+    for (operation, call) in ON_A_PAIR {
+        if !agrees(counts, operation, || call(random, before, texts.clone())) {
+            return false;
+        }
+    }
+    let judge = |text: &Vec<u8>| compare::implementation(before, text.clone()).expect("both have it");
+    let third = cases::text_to_judge(random);
+    let mut to_judge = [&texts.0, &texts.1, &third].into_iter().filter(|_| has_implementation(before));
+    to_judge.all(|text| agrees(counts, IMPLEMENTATION, || judge(text)))
 }
 
 /// Makes a call and counts its code; where the two differ, or one panics, reports it and says no.
@@ -205,7 +236,7 @@ fn missing(counts: &Counts) -> Vec<String> {
         for code in operation.codes {
             let marks: &[usize] = match code {
                 1..=12 if operation.two_texts => &[1, 2],
-                1..=12 | 17 => &[1],
+                1..=12 | 17 | 22 | 23 => &[1],
                 _ => &[0],
             };
             let absent = marks.iter().filter(|mark| by_code[*code][**mark] == 0);

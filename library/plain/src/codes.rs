@@ -21,9 +21,11 @@ pub const START_PAIR_NOT_SET: usize = 18;
 pub const PAIR_NOT_ALLOWED: usize = 19;
 pub const RULE_BROKEN: usize = 20;
 pub const RUN_TOO_SHORT: usize = 21;
+pub const OUTPUT_BESIDE_TICK: usize = 22;
+pub const NEITHER_POSSIBLE: usize = 23;
 
 /// Every code with its name.
-pub const ALL: [(&str, usize); 21] = [
+pub const ALL: [(&str, usize); 23] = [
     ("TEXT_TOO_LONG", TEXT_TOO_LONG),
     ("MISFIT", MISFIT),
     ("NAME_TOO_LONG", NAME_TOO_LONG),
@@ -45,4 +47,6 @@ pub const ALL: [(&str, usize); 21] = [
     ("PAIR_NOT_ALLOWED", PAIR_NOT_ALLOWED),
     ("RULE_BROKEN", RULE_BROKEN),
     ("RUN_TOO_SHORT", RUN_TOO_SHORT),
+    ("OUTPUT_BESIDE_TICK", OUTPUT_BESIDE_TICK),
+    ("NEITHER_POSSIBLE", NEITHER_POSSIBLE),
 ];

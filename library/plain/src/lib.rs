@@ -1,4 +1,4 @@
-//! The five operations (SPECIFICATION 12) over lent slices, in plain Rust.
+//! The six operations (SPECIFICATION 12) over lent slices, in plain Rust.
 //!
 //! Nothing here is proved. It was written from the rules alone, without the proved code, and serves
 //! two ends: the differential test compares the verified library with it, and the benchmark measures
@@ -7,6 +7,7 @@
 #![forbid(unsafe_code)]
 
 pub mod codes;
+mod implementation;
 mod moves;
 mod pairing;
 mod reader;
@@ -78,6 +79,13 @@ pub fn safe_states(text: &[u8], keep: &mut [u8]) -> Result<Safe, Refusal> {
     let safe = SafeSet::of(&system);
     write_keep(&safe, keep);
     Ok(Safe { count: safe.count, start: safe.member[system.start] })
+}
+
+/// Judges whether the text is an implementation (SPECIFICATION 8.6): codes 22 and 23 after those of reading.
+pub fn implementation(text: &[u8]) -> Result<(), Refusal> {
+    judge_length(text, 1)?;
+    let (_, system) = read_text(text, 1)?;
+    implementation::judge(&system).map_err(|fault| Refusal::new(fault.code, 1, fault.p, fault.q))
 }
 
 /// Searches for the least of the shortest departures; gives its length, 0 if there is none.

@@ -1,7 +1,7 @@
 //! The posts, with the numbers of SPECIFICATION 16.
 
-use plain::{check, read, safe_states, search, widest, Refusal, Safe, Sign, Widest};
-use texts::{early, hush, idle, post, rearm, strict};
+use plain::{check, implementation, read, safe_states, search, widest, Refusal, Safe, Sign, Widest};
+use texts::{early, hush, idle, loose, post, rearm, spare, strict};
 
 fn refused(code: usize, file: usize, p: usize, q: usize) -> Refusal {
     Refusal { code, file, p, q }
@@ -69,6 +69,22 @@ fn strict_signs_in_the_invariant() {
     assert_eq!(read(&with("x <= 3", "x > 3")), Err(refused(2, 1, place + 2, 0)));
     assert_eq!(read(&with("x <= 3", "x < = 3")), Err(refused(2, 1, place + 4, 0)));
     assert_eq!(read(&with("x <= 3", "x < 1")).unwrap().states, 10);
+}
+
+#[test]
+fn implementations() {
+    for text in [post(), rearm(), early(), idle(), strict(), spare()] {
+        assert_eq!(implementation(&text), Ok(()), "{}", String::from_utf8_lossy(&text));
+    }
+    assert_eq!(implementation(&hush()), Err(refused(23, 1, 3, 0)));
+    assert_eq!(implementation(&loose()), Err(refused(22, 1, 2, 3)));
+    assert_eq!(read(&spare()).unwrap().states, 15);
+    // Off is reached by `pass?`, and then the fault is there.
+    let text = String::from_utf8(spare())
+        .unwrap()
+        .replace("Wait -> Done { sync pass?; }", "Wait -> Off { sync pass?; assign x = 0; }");
+    assert_eq!(implementation(text.as_bytes()), Err(refused(23, 1, 10, 0)));
+    assert_eq!(implementation(b""), Err(refused(2, 1, 0, 0)));
 }
 
 #[test]

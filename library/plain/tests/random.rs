@@ -3,8 +3,9 @@
 mod naive;
 
 use naive::Naive;
+use plain::codes::OUTPUT_BESIDE_TICK;
 use std::collections::HashSet;
-use texts::{Model, Random};
+use texts::{urgent, Model, Random};
 
 /// Runs up to this length are enumerated.
 const DEPTH: usize = 7;
@@ -34,6 +35,14 @@ fn compare_one(model: &Model, text: &[u8]) -> bool {
     let ones: u32 = keep.iter().map(|byte| byte.count_ones()).sum();
     assert_eq!((answer.count, answer.start), (ones as usize, safe.contains(&naive.start())));
     true
+}
+
+/// Compares the answers whether an accepted text is an implementation; gives the code, 0 where it is one.
+fn compare_implementation(model: &Model, text: &[u8]) -> usize {
+    let fault = Naive::new(model).implementation_fault();
+    let expected = fault.map_or(Ok(()), |(code, p, q)| Err(plain::Refusal { code, file: 1, p, q }));
+    assert_eq!(plain::implementation(text), expected, "{}", show(text));
+    fault.map_or(0, |(code, _, _)| code)
 }
 
 /// Compares the widest table and the departure; gives the departure's length where there is one.
@@ -89,4 +98,29 @@ fn fast_and_naive_agree() {
     }
     println!("accepted {accepted}, departing {departing}, refining {refining}");
     assert!(accepted > 500 && departing > 100 && refining > 100);
+}
+
+#[test]
+fn implementations() {
+    let random = &mut Random::new(11);
+    let (mut implementations, mut both, mut neither) = (0, 0, 0);
+    for _ in 0..4_000 {
+        let locations = random.between(1, 4);
+        let model = match random.below(4) {
+            0 => Model::random(random, locations),
+            1 => urgent(random, locations),
+            _ => urgent(random, locations).varied(random),
+        };
+        let text = model.text(random);
+        if !compare_one(&model, &text) {
+            continue;
+        }
+        match compare_implementation(&model, &text) {
+            0 => implementations += 1,
+            OUTPUT_BESIDE_TICK => both += 1,
+            _ => neither += 1,
+        }
+    }
+    println!("implementations {implementations}, both possible {both}, neither {neither}");
+    assert!(implementations > 1_000 && both > 500 && neither > 500);
 }

@@ -1,4 +1,4 @@
-//! The five operations on the caller's own thread, which has to have stack enough.
+//! The six operations on the caller's own thread, which has to have stack enough.
 
 use super::{raw, Code, Record, Refusal, Safe, Side, Widest};
 
@@ -38,6 +38,15 @@ pub unsafe fn safe_states(text: &[u8], keep: &mut [u8]) -> Result<Safe, Refusal>
         raw::megzhoi_safe_states(text.as_ptr(), text.len(), keep.as_mut_ptr(), keep.len(), file, p, q)
     })?;
     Ok(Safe { count, start: start == 1 })
+}
+
+/// See [`super::implementation`].
+///
+/// # Safety
+/// The thread has [`super::STACK`] bytes of stack left.
+pub unsafe fn implementation(text: &[u8]) -> Result<(), Refusal> {
+    answer(|file, p, q| unsafe { raw::megzhoi_implementation(text.as_ptr(), text.len(), file, p, q) })?;
+    Ok(())
 }
 
 /// See [`super::search`].

@@ -103,7 +103,7 @@ fn with_stack<T: Send>(call: impl FnOnce() -> T + Send) -> T {
 /// # Ok::<(), Refusal>(())
 /// ```
 pub fn read(text: &[u8]) -> Result<Record, Refusal> {
-    // SAFETY: the thread has STACK bytes of stack; this holds for the four below too.
+    // SAFETY: the thread has STACK bytes of stack; this holds for the others below too.
     with_stack(|| unsafe { here::read(text) })
 }
 
@@ -123,6 +123,31 @@ pub fn read(text: &[u8]) -> Result<Record, Refusal> {
 /// ```
 pub fn safe_states(text: &[u8], keep: &mut [u8]) -> Result<Safe, Refusal> {
     with_stack(|| unsafe { here::safe_states(text, keep) })
+}
+
+/// Says whether a text is an implementation: in every state that is reachable from the start, by inputs too, a tick is
+/// possible or an output is, and not both. Where it is none, the refusal has the lowest state at fault.
+///
+/// ```
+/// use megzhoi::{implementation, Code};
+///
+/// # fn main() -> Result<(), Box<dyn std::error::Error>> {
+/// # let post = std::fs::read_to_string(concat!(env!("CARGO_MANIFEST_DIR"), "/../../examples/Post.xta"))?;
+/// # let hush = std::fs::read(concat!(env!("CARGO_MANIFEST_DIR"), "/../../examples/Hush.xta"))?;
+/// implementation(post.as_bytes())?; // examples/Post.xta raises `late` at tick 3 and no sooner
+///
+/// // A post that may raise it at tick 2 as well leaves open when it does.
+/// let refusal = implementation(post.replace("x >= 3", "x >= 2").as_bytes()).unwrap_err();
+/// assert_eq!((refusal.code, refusal.p, refusal.q), (Code::OutputBesideTick, 2, 3));
+///
+/// // examples/Hush.xta forbids a fourth tick and has no output to raise instead.
+/// let refusal = implementation(&hush).unwrap_err();
+/// assert_eq!((refusal.code, refusal.p, refusal.q), (Code::NeitherPossible, 3, 0));
+/// # Ok(())
+/// # }
+/// ```
+pub fn implementation(text: &[u8]) -> Result<(), Refusal> {
+    with_stack(|| unsafe { here::implementation(text) })
 }
 
 /// Looks for a shortest run of the left that departs from the right: n, the number of its steps, 0 where there is

@@ -33,6 +33,9 @@ extern "C" {
         text: *const u8, text_len: usize, keep: *mut u8, keep_len: usize,
         file: *mut usize, p: *mut usize, q: *mut usize,
     ) -> usize;
+    pub fn megzhoi_implementation(
+        text: *const u8, text_len: usize, file: *mut usize, p: *mut usize, q: *mut usize,
+    ) -> usize;
     pub fn megzhoi_search(
         left: *const u8, left_len: usize, right: *const u8, right_len: usize, keep: *mut u8, keep_len: usize,
         back: *mut u32, back_len: usize, line: *mut u32, line_len: usize, run: *mut u32, run_len: usize,

@@ -12,7 +12,7 @@ use std::fmt;
 /// assert_eq!(code, Code::KeepTooShort);
 /// assert_eq!(code.number(), 13);
 /// assert_eq!(code.text(), "keep is too short");
-/// assert!(Code::try_from(22).is_err());
+/// assert!(Code::try_from(24).is_err());
 /// # Ok::<(), megzhoi::NoSuchCode>(())
 /// ```
 #[derive(Clone, Copy, Debug, PartialEq, Eq, PartialOrd, Ord, Hash)]
@@ -40,6 +40,8 @@ pub enum Code {
     PairNotAllowed = 19,
     RuleBroken = 20,
     RunTooShort = 21,
+    OutputBesideTick = 22,
+    NeitherPossible = 23,
 }
 
 impl Code {
@@ -66,9 +68,11 @@ impl Code {
         Code::PairNotAllowed,
         Code::RuleBroken,
         Code::RunTooShort,
+        Code::OutputBesideTick,
+        Code::NeitherPossible,
     ];
 
-    /// The code as C has it, from 1 to 21.
+    /// The code as C has it, from 1 to 23.
     pub fn number(self) -> usize {
         self as usize
     }
@@ -97,6 +101,8 @@ impl Code {
             Code::PairNotAllowed => "the left state is not safe, or the right state's invariant is false",
             Code::RuleBroken => "the pair breaks a rule",
             Code::RunTooShort => "run is too short",
+            Code::OutputBesideTick => "an output is possible beside a tick, in a reachable state",
+            Code::NeitherPossible => "neither a tick nor an output is possible, in a reachable state",
         }
     }
 
@@ -112,7 +118,8 @@ impl Code {
             | Code::TooManyItems
             | Code::OtherMark => (Some("byte place"), None),
             Code::TooManyStates => (Some("states"), None),
-            Code::InputWithoutMove | Code::TwoEdges => (Some("state"), Some("channel")),
+            Code::InputWithoutMove | Code::TwoEdges | Code::OutputBesideTick => (Some("state"), Some("channel")),
+            Code::NeitherPossible => (Some("state"), None),
             Code::UnmatchedChannel => (Some("channel"), None),
             Code::KeepTooShort | Code::TableTooShort => (Some("bytes needed"), None),
             Code::QueueTooShort | Code::RunTooShort => (Some("entries needed"), None),

@@ -1,5 +1,6 @@
 //! The posts through the wrapper; the expected values are those of SPECIFICATION 16.
-use megzhoi::{check, read, safe_states, search, widest, Code, Direction, Label, Refusal, Side, Sign, KEEP_BYTES};
+use megzhoi::{check, implementation, read, safe_states, search, widest};
+use megzhoi::{Code, Direction, Label, Refusal, Side, Sign, KEEP_BYTES};
 
 const POST: &str = "broadcast chan pass, spike, late;
 process Post() {
@@ -40,6 +41,15 @@ fn hush() -> String {
 
 fn idle() -> String {
     changed(&hush(), " { x <= 3 }", "")
+}
+
+fn loose() -> String {
+    changed(POST, "x >= 3", "x >= 2")
+}
+
+fn spare() -> String {
+    let located = changed(POST, "Done;\ninit", "Done, Off { x <= 0 };\ninit");
+    changed(&located, "};\n}", "},\nOff -> Off { sync pass?; },\nOff -> Off { sync spike?; };\n}")
 }
 
 /// A refusal by its four numbers.
@@ -143,6 +153,21 @@ fn safe_states_of_posts() {
     let safe = safe_states(hush().as_bytes(), &mut keep).unwrap();
     assert_eq!((safe.count, safe.start), (5, false));
     assert_eq!(safe_states(POST.as_bytes(), &mut [0; 1]), refused(13, 0, 2, 0));
+}
+
+#[test]
+fn implementations() {
+    for text in [POST, &rearm(), &early(), &idle(), &strict(), &spare()] {
+        assert_eq!(implementation(text.as_bytes()), Ok(()), "{text}");
+    }
+    assert_eq!(implementation(hush().as_bytes()), refused(23, 1, 3, 0));
+    assert_eq!(implementation(loose().as_bytes()), refused(22, 1, 2, 3));
+    assert_eq!(read(spare().as_bytes()).unwrap().states, 15);
+    // What reading refuses comes first.
+    assert_eq!(implementation(b""), refused(2, 1, 0, 0));
+    assert_eq!(implementation(&[b' '; 32_769]), refused(1, 1, 0, 0));
+    let without = changed(&hush(), ",\nDone -> Done { sync spike?; }", "");
+    assert_eq!(implementation(without.as_bytes()), refused(10, 1, 5, 2));
 }
 
 #[test]

@@ -3,9 +3,9 @@
 //! MEGZHOI_STACK=bytes tries another size; where it is too small, the test ends by a signal.
 use megzhoi::{here, keep_bytes, queue_entries, table_bytes, KEEP_BYTES, STACK};
 use std::thread;
-use texts::{chain, drifting, full_of_edges, full_of_tokens, post, Kind};
+use texts::{chain, drifting, full_of_edges, full_of_tokens, passive, post, Kind, Reach};
 
-/// All five operations on two texts, on the caller's thread.
+/// All six operations on two texts, on the caller's thread.
 fn operations(left: &[u8], right: &[u8]) {
     // SAFETY: whether the stack is large enough is what is tried here.
     unsafe {
@@ -15,9 +15,12 @@ fn operations(left: &[u8], right: &[u8]) {
         let mut keep = vec![0; keep_bytes(of_left.states)];
         let mut table = vec![0; table_bytes(of_left.states, of_right.states)];
         let safe = here::safe_states(left, &mut keep).expect("an accepted text");
+        let judged = here::implementation(left);
         let found = here::search(left, right, &mut keep, &mut back, &mut line, &mut run);
         let made = here::widest(left, right, &mut keep, &mut table);
         let checked = here::check(left, right, &mut [0; KEEP_BYTES], &table);
+        // The start of an implementation is safe (SPECIFICATION 8.6).
+        assert!(safe.start || judged.is_err());
         assert_eq!([found.is_ok(), made.is_ok()], [safe.start; 2]);
         assert_eq!(checked.is_ok(), made.is_ok_and(|made| made.start));
     }
@@ -33,6 +36,7 @@ fn texts() -> Vec<(Vec<u8>, Vec<u8>)> {
         drifting(64, 4, Kind::Refining),
         drifting(64, 4, Kind::Departing),
         chain(128),
+        (passive(64, 4, Reach::All), passive(64, 4, Reach::All)),
     ]
 }
 

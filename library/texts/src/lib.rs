@@ -1,5 +1,6 @@
-//! Contract texts for tests and benchmarks: the posts (SPECIFICATION 16.1), seeded random texts, texts
-//! with one fault, texts at and over each limit, texts of a chosen size, and pairs of texts by kind.
+//! Contract texts for tests and benchmarks: the posts (SPECIFICATION 16.1), seeded random texts, ones that are
+//! implementations among them, texts with one fault, texts at and over each limit, texts of a chosen size, and pairs of
+//! texts by kind.
 
 #![forbid(unsafe_code)]
 
@@ -10,10 +11,12 @@ mod model;
 mod posts;
 mod random;
 mod sized;
+mod urgent;
 
 pub use damage::{damaged, noise};
 pub use limits::at_a_limit;
 pub use model::{Comparison, Edge, Model};
-pub use posts::{early, hush, idle, post, rearm, strict};
+pub use posts::{early, hush, idle, loose, post, rearm, spare, strict};
 pub use random::Random;
-pub use sized::{chain, drifting, full_of_edges, full_of_tokens, scaled_post, Kind};
+pub use sized::{chain, drifting, full_of_edges, full_of_tokens, passive, relay, scaled_post, Kind, Reach};
+pub use urgent::urgent;

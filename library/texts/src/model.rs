@@ -35,7 +35,7 @@ pub const INVARIANT_SIGNS: [&str; 2] = ["<=", "<"];
 
 impl Comparison {
     /// Says the same over whole ticks by the other sign, strict or not, where there is one.
-    fn restate(&mut self) {
+    pub(crate) fn restate(&mut self) {
         (self.sign, self.bound) = match (self.sign, self.bound) {
             ("<=", bound) => ("<", bound + 1),
             (">=", bound) if bound > 0 => (">", bound - 1),

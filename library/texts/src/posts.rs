@@ -1,4 +1,4 @@
-//! The six posts of SPECIFICATION 16.1.
+//! The eight posts of SPECIFICATION 16.1.
 
 fn build(bound: usize, invariant: bool, late: bool, rearm: bool) -> Vec<u8> {
     let wait = if invariant { format!("Wait {{ x <= {bound} }}") } else { "Wait".to_string() };
@@ -41,6 +41,27 @@ pub fn idle() -> Vec<u8> {
 
 /// Strict signs that say the same over whole ticks.
 pub fn strict() -> Vec<u8> {
-    let text = String::from_utf8(post()).expect("a post");
-    text.replace("x <= 3", "x < 4").replace("x >= 3", "x > 2").into_bytes()
+    changed(&[("x <= 3", "x < 4"), ("x >= 3", "x > 2")])
+}
+
+/// `late!` may come a tick before it has to.
+pub fn loose() -> Vec<u8> {
+    changed(&[("x >= 3", "x >= 2")])
+}
+
+/// A third location that no edge leads to.
+pub fn spare() -> Vec<u8> {
+    const DONE: &str = "Done -> Done { sync spike?; };";
+    const OFF: &str = "Done -> Done { sync spike?; },\nOff -> Off { sync pass?; },\nOff -> Off { sync spike?; };";
+    changed(&[(", Done;", ", Done, Off { x <= 0 };"), (DONE, OFF)])
+}
+
+/// The post with parts replaced, each of which must be there.
+fn changed(parts: &[(&str, &str)]) -> Vec<u8> {
+    let mut text = String::from_utf8(post()).expect("a post");
+    for (old, new) in parts {
+        assert!(text.contains(old), "{old}");
+        text = text.replace(old, new);
+    }
+    text.into_bytes()
 }

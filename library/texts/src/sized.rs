@@ -85,6 +85,51 @@ pub fn scaled_post(values: usize) -> Vec<u8> {
     text("x, y", &names, &format!("L {{ x <= {top} }}, D"), &edges)
 }
 
+/// Which states of a text are reached from its start, and what is found there.
+#[derive(Clone, Copy, Debug, PartialEq, Eq)]
+pub enum Reach {
+    /// All states, and each has the tick alone.
+    All,
+    /// Only those in which both clocks have the same value.
+    Few,
+    /// All states, and the last one has an output beside the tick.
+    Fault,
+}
+
+/// A text that takes inputs and lets time pass: one location, two clocks of `values` values each, so `values`² states,
+/// and `channels` channels, all of them inputs but the last. Input `a` sets the clock x to 0, `b` sets y, so every pair
+/// of values comes; where few states are to be reached, they set nothing. The output `o` comes where there is to be a
+/// fault, when both clocks are over the largest constant.
+pub fn passive(values: usize, channels: usize, reach: Reach) -> Vec<u8> {
+    let top = values - 2;
+    let mut names: Vec<String> = ["a", "b"].map(str::to_string).into_iter().collect();
+    names.extend((2..channels - 1).map(|i| format!("more{i}")));
+    let reset = |name: &str| match name {
+        "a" if reach != Reach::Few => "x",
+        "b" if reach != Reach::Few => "y",
+        _ => "",
+    };
+    let mut edges: Vec<String> = names.iter().flat_map(|name| input(name, reset(name), top)).collect();
+    names.push("o".to_string());
+    if reach == Reach::Fault {
+        edges.push(guarded(&format!("x > {top} && y > {top}"), "o!", ""));
+    }
+    text("x, y", &names, "L", &edges)
+}
+
+/// 32 locations, of which each but the first waits for its clock to have its largest constant and then, by an output,
+/// leads to the one declared before it. The clock has `values` values, so there are 32 × `values` states. They are
+/// reached one after another, the locations against the order of the state numbers.
+pub fn relay(values: usize) -> Vec<u8> {
+    let (top, count) = (values - 2, 32);
+    let name = |i: usize| if i == count - 1 { "L".to_string() } else { format!("M{i}") };
+    let waiting = (1..count).map(|i| format!("{} {{ x <= {top} }}", name(i)));
+    let locations: Vec<String> = std::iter::once(name(0)).chain(waiting).collect();
+    let down = |i| format!("{} -> {} {{ guard x >= {top}; sync down!; assign x = 0; }}", name(i), name(i - 1));
+    let edges: Vec<String> = (1..count).map(down).collect();
+    text("x", &["down".to_string()], &locations.join(", "), &edges)
+}
+
 /// A chain of 32 locations, each with an output to the one declared before it; in the first one the left
 /// makes an output that the right does not. The clock has `values` values, so there are 32 × `values`
 /// states. Pairs fall one location after another, against the order of the state numbers.

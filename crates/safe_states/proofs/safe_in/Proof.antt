@@ -3,7 +3,8 @@ use borrow.Author.Needs.{needs}
 use mathlib.Core.Path.{_∙_}
 use native.Mathlib.Omega.{arith}
 use Rattle.clocks_read.specs.Laws.{measured-load, measured-states}
-use Rattle.safe_states.proofs.Paths.{safe-refused, is-accepted, few-states, safe-short, safe-found, safe-ready}
+use Rattle.clocks_read.specs.Loaded.{answer-is, states-few}
+use Rattle.safe_states.proofs.Paths.{safe-refused, safe-short, safe-found, safe-ready}
 use Rattle.safe_states.proofs.safe_in.Statement.{statement}
 use Rattle.safe_states.proofs.safe_in.Tie as tie
 
@@ -18,7 +19,7 @@ bytes-for-requires c κs =
     let text = start .args .text .now in
     let judges = c .before .before .before .before .before .before .judge in
     let loaded = judges .ensures ∙ measured-load text _ (start .pre .0) _ _ in
-    omega (arith, few-states text (start .args .keep .now) _ _ (judges .result) _ _ loaded (c .enum-told .given .1))
+    omega (arith, states-few text _ _ (judges .result) _ _ loaded (c .enum-told .given .1))
 
 returns : tie.Need-returns
 returns c =
@@ -37,7 +38,7 @@ found-requires c κs =
     let judges = c .before .before .before .before .before .before .before .before .before .before .before .before .judge in
     let loaded = judges .ensures ∙ measured-load text _ (start .pre .0) _ _ in
     let told = c .before .before .before .before .before .before .enum-told .given .1 in
-    let states = measured-states text _ (start .pre .0) (is-accepted text (start .args .keep .now) _ _ (judges .result) _ _ loaded told) in
+    let states = measured-states text _ (start .pre .0) (answer-is text _ _ (judges .result) _ _ loaded _ told) in
     safe-ready text (start .args .keep .now) _ _ (judges .result) _ _ loaded told _ (c .before .before .before .before .before .bytes-for .ensures)
     (c .before .before .before .before .if1 .left) _ states (start .pre .1)
 

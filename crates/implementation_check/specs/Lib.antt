@@ -1,0 +1,4 @@
+pub mod Outcome
+pub mod Ready
+pub mod Laws
+pub mod Codes
