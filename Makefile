@@ -8,6 +8,7 @@
 # make programs   runs the four programs on some hundred pairs of files (needs python3)
 # make cases      writes the stored cases of the test programs anew (needs python3)
 # make library    the archive for C and Rust; c-example, differential and bench use it (cc; cargo)
+# make c-example  a C program over it: checks a draft against a contract at a tick length in milliseconds (TICK=, else 1)
 # make shared     the archive as a shared object, which bench and compare take as an older build (MEGZHOI_BEFORE=)
 # make compare    holds the library against the older build that MEGZHOI_BEFORE names, on some thousand pairs of texts
 DRAFT ?= examples/Rearm.xta
@@ -15,6 +16,8 @@ CONTRACT ?= examples/Post.xta
 # The file of the table; c-example writes one only where TABLE is given.
 TABLE_FILE := $(or $(TABLE),target/run/table.pbm)
 PICTURE ?= target/run/table.png
+# The tick length of c-example; the programs of `make run` and the others read with 1.
+TICK ?= 1
 LIBRARY := target/staticlib/libmegzhoi_c.a
 SHARED := target/staticlib/libmegzhoi_c.so
 
@@ -65,7 +68,7 @@ shared: library
 c-example: library
 	@mkdir -p target/run
 	@$(CC) -std=c11 -O2 -Wall -Wextra -Werror -o target/run/c-example library/example.c $(LIBRARY)
-	@target/run/c-example "$(DRAFT)" "$(CONTRACT)" $(if $(TABLE),"$(TABLE)") || { status=$$?; [ $$status = 1 ] || exit $$status; }
+	@target/run/c-example --tick "$(TICK)" "$(DRAFT)" "$(CONTRACT)" $(if $(TABLE),"$(TABLE)") || { status=$$?; [ $$status = 1 ] || exit $$status; }
 
 differential: library
 	@cargo test --offline --release --quiet --package plain --package megzhoi

@@ -1,15 +1,18 @@
 /* Checks a draft against a contract with slices that are just long enough:
 
-       c-example DRAFT CONTRACT [TABLE]
+       c-example [--tick MILLISECONDS] DRAFT CONTRACT [TABLE]
 
-   prints NO with n and a step a line, or YES with the number of pairs of the widest table. The table is then written
-   to the file TABLE, if one is named, and checked again: ACCEPTED with the number of its pairs. Last comes IMPLEMENTATION
-   if the draft is one itself, or NO IMPLEMENTATION with what stands in the way. A refusal is printed as REFUSED with its
-   code, file, p, q and what the code means.
+   reads both at the tick length that is given, else at 1, with which constants are ticks. It prints NO with n and a step
+   a line, or YES with the number of pairs of the widest table. The table is then written to the file TABLE, if one is
+   named, and checked again: ACCEPTED with the number of its pairs. Last comes IMPLEMENTATION if the draft is one itself,
+   or NO IMPLEMENTATION with what stands in the way. A refusal is printed as REFUSED with its code, file, p, q and what the
+   code means.
 
    Exit status: 0 for YES, 1 for NO, 2 for a refusal, a file that cannot be read or written, or wrong arguments. */
+#include <errno.h>
 #include <stdio.h>
 #include <stdlib.h>
+#include <string.h>
 
 #include "megzhoi.h"
 
@@ -25,9 +28,21 @@ struct text {
 
 static struct text left, right;
 
+/* One for all calls: every word can be given, and the library says which are in range. */
+static size_t tick_length = 1;
+
 static void fail(const char *what, const char *why) {
     fprintf(stderr, "%s: %s\n", what, why);
     exit(FAILED);
+}
+
+/* A word from its decimal digits. */
+static size_t number(const char *digits) {
+    char *end;
+    errno = 0;
+    unsigned long long value = strtoull(digits, &end, 10);
+    if (digits[0] < '0' || digits[0] > '9' || *end || errno) fail(digits, "no number");
+    return value;
 }
 
 /* Memory for a slice; an empty one has a valid pointer too. */
@@ -45,7 +60,8 @@ static void load(const char *path, struct text *text) {
     if (ferror(f)) fail(path, "cannot be read");
     fclose(f);
     size_t file, p, q;
-    size_t code = megzhoi_read(text->bytes, text->len, text->record, MEGZHOI_RECORD_ENTRIES, &file, &p, &q);
+    size_t code = megzhoi_read(tick_length, text->bytes, text->len, text->record, MEGZHOI_RECORD_ENTRIES,
+                               &file, &p, &q);
     text->states = code ? 0 : p;
 }
 
@@ -78,12 +94,13 @@ static int table_of_yes(uint8_t *keep, size_t keep_len, const char *path) {
     size_t len = megzhoi_table_bytes(left.states, right.states);
     uint8_t *table = slice(len, sizeof *table);
     size_t file, p, q;
-    size_t code = megzhoi_widest(left.bytes, left.len, right.bytes, right.len, keep, keep_len, table, len,
-                                 &file, &p, &q);
+    size_t code = megzhoi_widest(tick_length, left.bytes, left.len, right.bytes, right.len, keep, keep_len,
+                                 table, len, &file, &p, &q);
     if (code) return refused(code, file, p, q);
     printf("YES %zu\n", p);
     if (path) save(path, table, len);
-    code = megzhoi_check(left.bytes, left.len, right.bytes, right.len, keep, keep_len, table, len, &file, &p, &q);
+    code = megzhoi_check(tick_length, left.bytes, left.len, right.bytes, right.len, keep, keep_len, table, len,
+                         &file, &p, &q);
     if (code) return refused(code, file, p, q);
     printf("ACCEPTED %zu\n", p);
     free(table);
@@ -94,7 +111,7 @@ static int table_of_yes(uint8_t *keep, size_t keep_len, const char *path) {
    all the same. */
 static void print_implementation(void) {
     size_t file, p, q;
-    size_t code = megzhoi_implementation(left.bytes, left.len, &file, &p, &q);
+    size_t code = megzhoi_implementation(tick_length, left.bytes, left.len, &file, &p, &q);
     if (code) {
         print_refusal("NO IMPLEMENTATION", code, file, p, q);
     } else {
@@ -103,15 +120,19 @@ static void print_implementation(void) {
 }
 
 int main(int argc, char **argv) {
-    if (argc != 3 && argc != 4) fail("usage", "c-example DRAFT CONTRACT [TABLE]");
+    if (argc > 2 && strcmp(argv[1], "--tick") == 0) {
+        tick_length = number(argv[2]);
+        argc -= 2, argv += 2;
+    }
+    if (argc != 3 && argc != 4) fail("usage", "c-example [--tick MILLISECONDS] DRAFT CONTRACT [TABLE]");
     load(argv[1], &left);
     load(argv[2], &right);
     size_t keep_len = megzhoi_keep_bytes(left.states), pairs = megzhoi_queue_entries(left.states, right.states);
     uint8_t *keep = slice(keep_len, sizeof *keep);
     uint32_t *back = slice(pairs, sizeof *back), *line = slice(pairs, sizeof *line), *run = slice(pairs, sizeof *run);
     size_t file, n, q;
-    size_t code = megzhoi_search(left.bytes, left.len, right.bytes, right.len, keep, keep_len, back, pairs,
-                                 line, pairs, run, pairs, &file, &n, &q);
+    size_t code = megzhoi_search(tick_length, left.bytes, left.len, right.bytes, right.len, keep, keep_len,
+                                 back, pairs, line, pairs, run, pairs, &file, &n, &q);
     int status = NO;
     if (code) {
         status = refused(code, file, n, q);

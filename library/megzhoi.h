@@ -5,11 +5,15 @@
    crates/megzhoi_c says: the definitions are in crates/megzhoi_c/specs and in the operations' own crates.
    library/example.c is a whole program over it.
 
+   The first argument of an operation is the tick length, one for all its texts: 1 to 60,000 milliseconds. A constant
+   of c milliseconds comes to c / tick_length ticks, the nearest whole number, an exact half upward (SPECIFICATION 4.7).
+   With 1 the constants of a text are ticks. Any other length is refused with 24.
+
    A call of an operation returns 0 or the code of a refusal, and writes three numbers: *file, *p and *q. On a
    refusal they are the ones of the table below. On success *file is 0, and *p and *q are what the function says.
-   Codes 1 to 16 leave every slice as it came. From 17 to 21 keep is written, a table and the run are untouched, and
-   back and line are untouched by 17 and free after 21. 22 and 23 come from megzhoi_implementation alone, which is lent
-   no slice. On success, entries past the written part keep their values.
+   Codes 1 to 16 and 24 leave every slice as it came. From 17 to 21 keep is written, a table and the run are untouched,
+   and back and line are untouched by 17 and free after 21. 22 and 23 come from megzhoi_implementation alone, which is
+   lent no slice. On success, entries past the written part keep their values.
    The archive needs memcpy and memset of the C library and nothing else.
 
    How long the slices are: megzhoi_read gives the number of states of each text, and megzhoi_keep_bytes,
@@ -46,7 +50,7 @@ enum {
     MEGZHOI_NAME_TOO_LONG = 3,       /* (byte place, 0) */
     MEGZHOI_DECLARED_BEFORE = 4,     /* (byte place, 0) */
     MEGZHOI_UNKNOWN_NAME = 5,        /* (byte place, 0): also where `system` names another process */
-    MEGZHOI_CONSTANT_TOO_LARGE = 6,  /* (byte place, 0) */
+    MEGZHOI_CONSTANT_TOO_LARGE = 6,  /* (byte place, 0): over the limit in ticks */
     MEGZHOI_TOO_MANY_ITEMS = 7,      /* (byte place, 0): of the first item over a limit, at its first name */
     MEGZHOI_OTHER_MARK = 8,          /* (byte place, 0): of the channel's name in the later use */
     MEGZHOI_TOO_MANY_STATES = 9,     /* (states, 0) */
@@ -63,7 +67,8 @@ enum {
     MEGZHOI_RULE_BROKEN = 20,        /* (step, left state * right states + right state): the least step that fails */
     MEGZHOI_RUN_TOO_SHORT = 21,      /* (entries needed, 0) */
     MEGZHOI_OUTPUT_BESIDE_TICK = 22, /* (state, channel): the lowest reachable state with a fault, its lowest output */
-    MEGZHOI_NEITHER_POSSIBLE = 23    /* (state, 0): the lowest reachable state with a fault */
+    MEGZHOI_NEITHER_POSSIBLE = 23,   /* (state, 0): the lowest reachable state with a fault */
+    MEGZHOI_TICK_OUT_OF_RANGE = 24   /* (tick length, 0): judged before all others, nothing is looked at */
 };
 
 /* What a code means, in a few words; any number that no call returns is "no such code". */
@@ -75,7 +80,7 @@ static inline const char *megzhoi_code_text(size_t code) {
     case MEGZHOI_NAME_TOO_LONG: return "a name has more than 31 bytes";
     case MEGZHOI_DECLARED_BEFORE: return "the name is declared already";
     case MEGZHOI_UNKNOWN_NAME: return "the name is not declared, or is of another kind";
-    case MEGZHOI_CONSTANT_TOO_LARGE: return "a constant is over 1,000";
+    case MEGZHOI_CONSTANT_TOO_LARGE: return "a constant is over 1,000 ticks";
     case MEGZHOI_TOO_MANY_ITEMS: return "there are more items than the limit allows";
     case MEGZHOI_OTHER_MARK: return "the channel was used with the other mark before";
     case MEGZHOI_TOO_MANY_STATES: return "the text has more than 4,096 states";
@@ -93,12 +98,16 @@ static inline const char *megzhoi_code_text(size_t code) {
     case MEGZHOI_RUN_TOO_SHORT: return "run is too short";
     case MEGZHOI_OUTPUT_BESIDE_TICK: return "an output is possible beside a tick, in a reachable state";
     case MEGZHOI_NEITHER_POSSIBLE: return "neither a tick nor an output is possible, in a reachable state";
+    case MEGZHOI_TICK_OUT_OF_RANGE: return "the tick length is not 1 to 60,000";
     default: return "no such code";
     }
 }
 
 /* Bytes of the longest text that is not refused with 1. */
 #define MEGZHOI_TEXT_LIMIT 32768
+
+/* Milliseconds of the longest tick that is not refused with 24; the shortest is 1. */
+#define MEGZHOI_TICK_LIMIT 60000
 
 /* Enough for every text: bytes of keep. */
 #define MEGZHOI_KEEP_BYTES 512
@@ -134,7 +143,7 @@ enum {
        and for each of 3 clocks 1 where the edge sets it to 0 */
     MEGZHOI_EDGES = 540,
     MEGZHOI_EDGE_ENTRIES = 20,
-    /* a comparison: clock from 0, sign (MEGZHOI_AT_MOST, ..), constant */
+    /* a comparison: clock from 0, sign (MEGZHOI_AT_MOST, ..), constant in ticks */
     MEGZHOI_COMPARISON_ENTRIES = 3
 };
 
@@ -150,35 +159,36 @@ enum {
 /* Reads a text. On success *p is the number of its states and *q is 0, and record gets the first min(record_len,
    MEGZHOI_RECORD_ENTRIES) numbers of the text's record; a refusal leaves record as it came. Items past the counts
    are filling. */
-size_t megzhoi_read(const uint8_t *text, size_t text_len, size_t *record, size_t record_len,
+size_t megzhoi_read(size_t tick_length, const uint8_t *text, size_t text_len, size_t *record, size_t record_len,
                     size_t *file, size_t *p, size_t *q);
 
 /* Finds the safe states of a text: one bit a state in keep, state 0 in the high bit of byte 0. On success *p is
    their count, and *q is 1 where the start is safe, else 0. */
-size_t megzhoi_safe_states(const uint8_t *text, size_t text_len, uint8_t *keep, size_t keep_len,
+size_t megzhoi_safe_states(size_t tick_length, const uint8_t *text, size_t text_len, uint8_t *keep, size_t keep_len,
                            size_t *file, size_t *p, size_t *q);
 
 /* Says whether a text is an implementation: in every state that is reachable from the start, by inputs too, a tick is
    possible or an output is, and not both. On success, where it is one, *p and *q are 0. No slice is lent. */
-size_t megzhoi_implementation(const uint8_t *text, size_t text_len, size_t *file, size_t *p, size_t *q);
+size_t megzhoi_implementation(size_t tick_length, const uint8_t *text, size_t text_len,
+                              size_t *file, size_t *p, size_t *q);
 
 /* Looks for a shortest run of the left that departs from the right. On success *p is n, the number of its steps,
    0 where there is none, and *q is 0; run gets the n steps, 0 for a tick and else the left's channel number. keep
    gets the left's safe states. back and line are scratch. */
-size_t megzhoi_search(const uint8_t *left, size_t left_len, const uint8_t *right, size_t right_len,
+size_t megzhoi_search(size_t tick_length, const uint8_t *left, size_t left_len, const uint8_t *right, size_t right_len,
                       uint8_t *keep, size_t keep_len, uint32_t *back, size_t back_len,
                       uint32_t *line, size_t line_len, uint32_t *run, size_t run_len,
                       size_t *file, size_t *p, size_t *q);
 
 /* Checks a given table (raw PBM, width the right's states, height the left's). On success *p is the number of
    pairs set and *q is 0. keep gets the left's safe states. */
-size_t megzhoi_check(const uint8_t *left, size_t left_len, const uint8_t *right, size_t right_len,
+size_t megzhoi_check(size_t tick_length, const uint8_t *left, size_t left_len, const uint8_t *right, size_t right_len,
                      uint8_t *keep, size_t keep_len, const uint8_t *table, size_t table_len,
                      size_t *file, size_t *p, size_t *q);
 
 /* Makes the widest table. On success *p is the number of its pairs, and *q is 1 where the start pair is one, else
    0. keep gets the left's safe states. */
-size_t megzhoi_widest(const uint8_t *left, size_t left_len, const uint8_t *right, size_t right_len,
+size_t megzhoi_widest(size_t tick_length, const uint8_t *left, size_t left_len, const uint8_t *right, size_t right_len,
                       uint8_t *keep, size_t keep_len, uint8_t *table, size_t table_len,
                       size_t *file, size_t *p, size_t *q);
 

@@ -1,10 +1,11 @@
 """Texts for the implementation check, each with the answer that SPECIFICATION 8.6 and 12.9 give it, worked out by hand.
 
 An answer is what `implementation` of tests/reference.py gives: nothing, or a refusal. tests/make_cases.py holds the two against each
-other. Channels are i, o and p (1, 2 and 3) and the clock is x, where a text does not say otherwise.
+other. Constants are ticks, but in `at_tick_lengths`. Channels are i, o and p (1, 2 and 3) and the clock is x, where a text does not say
+otherwise.
 """
 import reference as ref
-from texts import POST, POSTS, beat, clocked, faults, late, rows, swapped, wide
+from texts import OUT_OF_RANGE, POST, POSTS, SHEET, beat, clocked, faults, late, rows, swapped, wide
 
 YES = ()
 
@@ -200,8 +201,22 @@ def large():
             (late(1000), YES), (swapped(late(1000), (b"x >= 1000", b"x >= 999")), both(999, 3))]
 
 
+def at_tick_lengths():
+    """Constants in milliseconds, each with the tick length before it: SPECIFICATION 16.9, and bounds that move apart and together."""
+    apart = unit("A { x <= 5 }", edge("A -> A", "o!", "x >= 4"))  # at 1, 2, 3, 10 and 11: 5 and 4, 3 and 2, 2 and 1, 1 and 0, 0 and 0
+    below, long = unit("A { x < 1 }", edge("A -> A", "o!")), POST.ljust(ref.LIMITS["text"] + 1)
+    no_time, loose = (2, 1, below.index(b"1 }"), 0), swapped(POSTS["Loose"], (b"3", b"3000"), (b"2", b"2500"))
+    refused = [*((length, text) for length in OUT_OF_RANGE for text in (POST, b"", faults()[11])), (OUT_OF_RANGE[1], long)]
+    return [*((length, text, (24, 0, length, 0)) for length, text in refused),
+            (1, SHEET, (6, 1, SHEET.index(b"3000"), 0)), (400, SHEET, both(6, 3)), (1000, SHEET, YES), (2000, SHEET, both(1, 3)),
+            (60000, SHEET, YES), (1, apart, both(4, 2)), (2, apart, both(2, 2)), (3, apart, both(1, 2)), (10, apart, both(0, 2)),
+            (11, apart, YES), (2, below, YES), (3, below, no_time), (60000, below, no_time), (6, POST, YES), (7, POST, YES),
+            (4, late(6), YES), (4, swapped(late(6), (b">= 6", b">= 5")), both(1, 3)), (1000, loose, YES),
+            (1000, late(2499, POSTS["Hush"]), neither(2))]
+
+
 def known():
-    """All of them."""
+    """All that are for tick length 1."""
     parts = (posts, refused_before, at_the_start, without_clocks, channels, signs, behind, unreachable, cycles, resets, more_clocks,
              two_faults, not_pruned, large)
     return [case for part in parts for case in part()]

@@ -2,12 +2,12 @@
 """make_cases: write the data and the expected output of the test programs from tests/reference.py.
 
 crates/test_reader has its texts in stdin, written by hand; only its expected output is written here.
-crates/test_clocks and crates/test_implementation get texts on stdin, a `#` between two.
-crates/test_operations gets data/cases, records of a letter, six numbers of three bytes, low first, and bytes:
+crates/test_clocks and crates/test_implementation get texts on stdin, each after its tick length and a `#`, with a `#` between two cases.
+crates/test_operations gets data/cases, records of a letter, six numbers of three bytes and a word of eight, low first, and bytes:
 - T, the two texts that the calls after it are about: length of the left, its length with spaces after it, the same for the
   right, and twice 0; then the left's bytes and the right's;
 - a call: R reading and S safe states (of the left), D search, C check, W widest table; lengths of keep, of the table to write,
-  of back, line and run, and of the given table; then the given table's bytes.
+  of back, line and run, and of the given table; its word is the tick length; then the given table's bytes.
 Everything that is lent begins as a fixed pattern, so that what an operation leaves alone is seen in the output. A slice with more
 than 64 items is shown as its length and a sum (`summed`).
 """
@@ -17,15 +17,17 @@ from pathlib import Path
 
 import implementations
 import reference as ref
-from texts import (POST, POSTS, beat, clocked, counts, damaged, faults, late, random_text, rows, swapped, telling_pairs)
+import tick_lengths
+from texts import (OUT_OF_RANGE, POST, POSTS, SHEET, TICK, beat, bounded, clocked, counts, damaged, faults, guarded, in_milliseconds, late,
+                   random_length, random_text, rows, swapped, telling_pairs)
 
 CRATES = Path(__file__).parent.parent / "crates"
 KEEP, ENTRY = 0xA5, 77  # what lent bytes and entries begin as
 WHOLE = 64  # so many items are shown whole
 MOST = dict(keep=520, room=16384, back=131072, line=131072, run=512, data=524288)  # the room that test_operations has
-BUFFER = 65536  # the bytes of stdin that test_reader, test_clocks and test_implementation read
+BUFFER = 131072  # the bytes of stdin that test_reader, test_clocks and test_implementation read
 LONG = ref.LIMITS["text"]
-PAIRED = {name: text for name, text in POSTS.items() if name not in ("Loose", "Spare")}  # the posts of SPECIFICATION 16.2 to 16.6
+PAIRED = {name: text for name, text in POSTS.items() if name not in ("Loose", "Spare", "Sheet")}  # the posts of SPECIFICATION 16.2 to 16.6
 
 
 def summed(items):
@@ -51,38 +53,39 @@ class Cases:
     def __init__(self):
         self.data, self.lines, self.given, self.codes = b"", [], None, set()
 
-    def texts(self, left, right=b"", left_full=0, right_full=0):
-        """The texts of the next calls, with spaces after them up to a full length."""
+    def texts(self, left, right=b"", left_full=0, right_full=0, tick_length=TICK):
+        """The texts of the next calls, with spaces after them up to a full length, and their tick length."""
+        self.tick_length = tick_length
         fulls = max(left_full, len(left)), max(right_full, len(right))
         if self.given != (left, right, fulls):
             self.record("T", (len(left), fulls[0], len(right), fulls[1], 0, 0), left + right)
         self.given = (left, right, fulls)
         self.left, self.right = left.ljust(fulls[0]), right.ljust(fulls[1])
 
-    def record(self, letter, numbers, rest):
-        self.data += letter.encode() + b"".join(n.to_bytes(3, "little") for n in numbers) + rest
+    def record(self, letter, numbers, rest, word=0):
+        self.data += letter.encode() + b"".join(n.to_bytes(3, "little") for n in numbers) + word.to_bytes(8, "little") + rest
 
     def call(self, letter, keep=8, room=0, back=0, line=0, run=0, table=b""):
         """One call; the answer, and the table that was made."""
         lengths = dict(keep=keep, room=room, back=back, line=line, run=run)
         assert all(0 <= n <= MOST[name] for name, n in lengths.items()), lengths
-        self.record(letter, (*lengths.values(), len(table)), table)
+        self.record(letter, (*lengths.values(), len(table)), table, self.tick_length)
         kept, made, steps = bytes([KEEP]) * keep, bytes([KEEP]) * room, [ENTRY] * run
-        left, right = self.left, self.right
+        tick, left, right = self.tick_length, self.left, self.right
         if letter == "R":
             try:
-                answer = (ref.read(left).count,)
+                answer = (ref.read(tick, left).count,)
             except ref.Refused as r:
                 answer = r.answer
         elif letter == "S":
-            answer, kept = ref.safe_states(left, kept)
+            answer, kept = ref.safe_states(tick, left, kept)
         elif letter == "D":
-            answer, kept, steps = ref.search(left, right, kept, back, line, steps)
+            answer, kept, steps = ref.search(tick, left, right, kept, back, line, steps)
             answer = answer if isinstance(answer, tuple) else (answer,)
         elif letter == "C":
-            answer, kept = ref.check(left, right, kept, table)
+            answer, kept = ref.check(tick, left, right, kept, table)
         else:
-            answer, kept, made = ref.widest(left, right, kept, made)
+            answer, kept, made = ref.widest(tick, left, right, kept, made)
         self.show(letter, answer, kept, made, steps)
         return answer, made
 
@@ -118,13 +121,13 @@ def every_code():
     one = [(c, 1) for c in range(1, 12)]
     codes = {"R": one, "S": one + [(13, 0)], "D": texts + [(13, 0), (15, 0), (17, 1), (21, 0)],
              "C": texts + [(13, 0), (16, 0), (17, 1), (18, 0), (19, 0), (20, 0)], "W": texts + [(13, 0), (14, 0), (17, 1)]}
-    return {(o, c, f) for o, found in codes.items() for c, f in found}
+    return {(o, c, f) for o, found in codes.items() for c, f in found + [(24, 0)]}
 
 
-def two_texts(cases, left, right, run=12):
+def two_texts(cases, left, right, run=12, tick_length=TICK):
     """The calls over two texts with slices just long enough: search, widest table, and the check of that table."""
-    cases.texts(left, right)
-    h, w = counts(left, right) or (8, 8)
+    cases.texts(left, right, tick_length=tick_length)
+    h, w = counts(left, right, tick_length) or (8, 8)
     cases.call("D", keep=(h + 7) // 8, back=h * w, line=h * w, run=run)
     answer, made = cases.call("W", keep=(h + 7) // 8, room=size(h, w))
     if answer[1:] != (0,):  # else the check ends at the start pair
@@ -214,7 +217,7 @@ def lengths(cases):
 
 def tables(cases):
     """Given tables with one fault each: headers, the start pair, pairs that may not stand, pairs that break a rule at each kind of step."""
-    head, safe = ref.header(10, 10), sorted(ref.Text(POST).safe())
+    head, safe = ref.header(10, 10), sorted(ref.Text(TICK, POST).safe())
     same = {(s, s) for s in safe}
 
     def raster(pairs):
@@ -237,11 +240,13 @@ def tables(cases):
 
 
 def random_pairs(cases, seed):
-    """Random texts of each kind, with lengths around what is needed, and made, damaged and random tables."""
+    """Random texts of each kind, with lengths around what is needed, and made, damaged and random tables; each third pair in milliseconds."""
     rng = random.Random(seed)
-    for left, right in telling_pairs(rng):
-        cases.texts(left, right)
-        h, w = counts(left, right) or (1, 1)
+    for i, (left, right) in enumerate(telling_pairs(rng)):
+        tick = TICK if i % 3 else random_length(rng)
+        left, right = in_milliseconds(rng, left, tick), in_milliseconds(rng, right, tick)
+        cases.texts(left, right, tick_length=tick)
+        h, w = counts(left, right, tick) or (1, 1)
         keep, front = (h + 7) // 8, len(ref.header(w, h))
         cases.call("D", keep=keep, back=h * w, line=h * w + rng.choice((0, 2)), run=rng.choice((2, 9, 9, 9)))
         answer, made = cases.call("W", keep=keep + rng.choice((0, 1)), room=size(h, w) + rng.choice((0, 0, 3)))
@@ -282,21 +287,56 @@ def strict_pairs(cases):
                              (strict(2, 3), POST, None), (strict(0, 2), strict(0, 4), []), (strict(0, 4), strict(0, 2), [0, 0]),
                              (beats, beat(2), []), (beat(2), beats, []), (beats, beat(2, False), [0, 0, 1, 0]), (beat(1), beats, [0, 1])):
         two_texts(cases, left, right)
-        found = ref.search(left, right, bytes(2), 144, 144, [])[0]
-        assert (17, 1, 0, 0) == found if run is None else ref.departure(ref.both(left, right)) == run, (found, run)
+        departs(TICK, left, right, run)
 
 
-def reading_line(text):
+def departs(tick_length, left, right, run):
+    """The departure is this one; without one given, the left has no implementation."""
+    found = ref.search(tick_length, left, right, bytes(64), 10000, 10000, [])[0]
+    assert (17, 1, 0, 0) == found if run is None else ref.departure(ref.both(tick_length, left, right)) == run, (tick_length, found, run)
+
+
+def scaled_pairs(cases):
+    """SPECIFICATION 16.9 and what follows from it: Sheet at several tick lengths, and departures that rounding makes, each with its run."""
+    for tick in tick_lengths.OF_SHEET:
+        two_texts(cases, SHEET, SHEET, tick_length=tick)
+        for letter in "RS":
+            cases.call(letter)
+    for tick, left, right, run in tick_lengths.pairs():
+        two_texts(cases, left, right, tick_length=tick)
+        departs(tick, left, right, run)
+    for tick, good, bad in tick_lengths.faults_by_ticks():
+        for left, right in ((bad, POST), (good, bad), (good, POST)):
+            cases.texts(left, right, tick_length=tick)
+            for letter in "RD":
+                cases.call(letter, keep=0)
+
+
+def lengths_out_of_range(cases):
+    """24 before every other code, with every slice as it came."""
+    other = swapped(POST, (b"late", b"tardy"))
+    for tick in OUT_OF_RANGE:
+        for left, right, *full in ((POST, POST), (faults()[2], POST, 0, LONG + 1), (SHEET, SHEET, LONG + 1, 0), (POST, other)):
+            cases.texts(left, right, *full, tick_length=tick)
+            for letter in "RSDCW":
+                cases.call(letter, keep=2, room=29, back=100, line=100, run=5)
+        cases.texts(POSTS["Hush"], POST, tick_length=tick)
+        for letter in "SDCW":
+            cases.call(letter, keep=0)
+            cases.call(letter, keep=70, room=70, back=70, line=70, run=70, table=b"P4\n")
+
+
+def reading_line(tick_length, text):
     """What test_clocks prints: reading, then the safe states with one byte of keep, and with 512, of which it shows seven."""
     def words(answer, done):
         return f" refused {' '.join(map(str, answer))}" if len(answer) == 4 else done(*answer)
 
     def safe(keep):
-        answer, kept = ref.safe_states(text, bytes([170]) * keep)
+        answer, kept = ref.safe_states(tick_length, text, bytes([170]) * keep)
         found = words(answer, lambda count, start: f" safe {count} {'yes' if start else 'no'}")
         return f"{found} keep{''.join(f' {b}' for b in kept[:7])}"
     try:
-        read = f" states {ref.read(text).count}"
+        read = f" states {ref.read(tick_length, text).count}"
     except ref.Refused as r:
         read = words(r.answer, None)
     return f"{read} |{safe(1)} |{safe(512)}"
@@ -311,17 +351,6 @@ def known_readings():
             *((text, f" refused 2 1 {text.index(b'{ x') + at} 0 |") for text, at in (
                 (bounded(b"x < 0"), 6), (bounded(b"x < 00"), 6), (bounded(b"x > 3"), 4), (bounded(b"x < = 3"), 6))),
             (bounded(b"x < 1"), " states 10 |")]
-
-
-def bounded(invariant):
-    """Post with another invariant."""
-    return swapped(POST, (b"x <= 3", invariant))
-
-
-def guarded(guards, mark="?"):
-    """One location and one channel, an edge for each guard."""
-    edges = ", ".join(f"A -> A {{ guard {g}; sync a{mark}; }}" if g else f"A -> A {{ sync a{mark}; }}" for g in guards)
-    return f"broadcast chan a; process P() {{ clock x; state A; init A; trans {edges}; }} system P;".encode()
 
 
 def strict_guards():
@@ -364,64 +393,84 @@ def boundary_readings():
     return [*(rows(*s) for s in sizes), never, unread, cut, once, *(clocked(*t) for t in three)]
 
 
-def readings(count=265, seed=3):
-    """Reading and safe states: the examples, known readings, each fault, limits, random texts with up to three clocks."""
+def random_reading(rng):
+    """A text of up to three clocks, now and then damaged."""
+    channels = [(f"c{i}", rng.choice("??!!!-")) for i in range(rng.choice((1, 2, 2, 3)))]
+    clocks = ["x", "y", "z"][:rng.choice((0, 1, 1, 2, 3, 3))]
+    text = random_text(rng, channels, clocks, rng.choice((1, 2)))
+    return damaged(rng, text).replace(b"#", b"@") if rng.random() < 0.1 else text
+
+
+def case_bytes(cases):
+    """Each tick length and text, as test_clocks and test_implementation read them."""
+    data = b"#".join(b"%d#%s" % case for case in cases)
+    assert len(data) <= BUFFER and all(b"#" not in text for _, text in cases)
+    return data
+
+
+def readings(count=265, scaled=80, seed=3):
+    """Reading and safe states: the examples, known readings, each fault, limits, random texts; and at other tick lengths than 1."""
     rng = random.Random(seed)
     texts = [*PAIRED.values(), *(t for t, _ in known_readings() + strict_readings()), *faults().values(), *boundary_readings()]
-    while len(texts) < count:
-        channels = [(f"c{i}", rng.choice("??!!!-")) for i in range(rng.choice((1, 2, 2, 3)))]
-        clocks = ["x", "y", "z"][:rng.choice((0, 1, 1, 2, 3, 3))]
-        text = random_text(rng, channels, clocks, rng.choice((1, 2)))
-        texts.append(damaged(rng, text).replace(b"#", b"@") if rng.random() < 0.1 else text)
-    assert len(b"#".join(texts)) <= BUFFER
-    lines = [reading_line(t) for t in texts]
-    (CRATES / "test_clocks" / "stdin").write_bytes(b"#".join(texts))
+    texts += [random_reading(rng) for _ in range(count - len(texts))]
+    cases = [*((TICK, t) for t in texts), *((tick, t) for tick, t, _ in tick_lengths.readings())]
+    for _ in range(scaled):
+        tick = random_length(rng)
+        cases.append((tick, in_milliseconds(rng, random_reading(rng), tick)))
+    lines = [reading_line(*case) for case in cases]
+    (CRATES / "test_clocks" / "stdin").write_bytes(case_bytes(cases))
     (CRATES / "test_clocks" / "stdout").write_text("\n".join(lines) + "\n")
     kinds = Counter(l.split("|")[0].split()[0] for l in lines)
     print("test_clocks", len(lines), "texts;", f"{kinds['states']} accepted, {kinds['refused']} refused")
 
 
-def random_implementations(rng, each=4):
+def random_implementations(rng, each):
     """Random texts, so many of each answer: an implementation, 22 and 23; some state is without a tick, and five or more are reachable."""
     wanted, texts = {0: each, 22: each, 23: each}, []
     while any(wanted.values()):
         channels = [(f"c{i}", rng.choice("?!!-")) for i in range(rng.choice((1, 2, 3)))]
         text = random_text(rng, channels, ["x", "y", "z"][:rng.choice((1, 1, 2, 3))], rng.choice((1, 2, 3)))
-        code = (ref.implementation(text) or (0,))[0]
+        code = (ref.implementation(TICK, text) or (0,))[0]
         if not wanted.get(code):
             continue
-        t = ref.read(text)
+        t = ref.read(TICK, text)
         if len(t.reachable()) >= 5 and any(t.next(s, 0) is None for s in t.reachable()):
             wanted[code] -= 1
             texts.append(text)
     return texts
 
 
-def implementation_cases(seed=9):
-    """The implementation check: texts with known answers, each fault of reading, random texts.
+def implementation_cases(seed=9, each=4):
+    """The implementation check: texts with known answers, each fault of reading, random texts; and at other tick lengths than 1.
     A line ends with `same`: nothing that the program compares may differ."""
-    known = implementations.known()
-    for text, answer in known:
-        assert ref.implementation(text) == answer, (text, answer, ref.implementation(text))
-    bad = faults()
-    assert all(ref.implementation(text)[0] == code for code, text in bad.items())
-    texts = [*(text for text, _ in known), *bad.values(), *random_implementations(random.Random(seed))]
-    assert len(b"#".join(texts)) <= BUFFER and all(b"#" not in text for text in texts) and texts[-1]
-    answers = [ref.implementation(text) for text in texts]
+    known = [*((TICK, *case) for case in implementations.known()), *implementations.at_tick_lengths()]
+    for tick, text, answer in known:
+        assert ref.implementation(tick, text) == answer, (tick, text, answer, ref.implementation(tick, text))
+    bad, rng = faults(), random.Random(seed)
+    assert all(ref.implementation(TICK, text)[0] == code for code, text in bad.items())
+    cases = [*((tick, text) for tick, text, _ in known), *((TICK, text) for text in [*bad.values(), *random_implementations(rng, each)])]
+    for text in random_implementations(rng, each):
+        tick = random_length(rng)
+        cases.append((tick, in_milliseconds(rng, text, tick)))
+        assert ref.implementation(*cases[-1]) == ref.implementation(TICK, text)
+    answers = [ref.implementation(*case) for case in cases]
     lines = ["refused %d %d %d %d same" % a if a else "yes same" for a in answers]
-    (CRATES / "test_implementation" / "stdin").write_bytes(b"#".join(texts))
+    (CRATES / "test_implementation" / "stdin").write_bytes(case_bytes(cases))
     (CRATES / "test_implementation" / "stdout").write_text("\n".join(lines) + "\n")
     codes = Counter(a[0] if a else 0 for a in answers)
-    assert set(codes) == {0, *range(1, 12), 22, 23}
+    assert set(codes) == {0, *range(1, 12), 22, 23, 24}
     print("test_implementation", len(lines), "texts;", f"{codes[0]} yes, {codes[22]} with 22, {codes[23]} with 23")
 
 
-def record_lines(text):
+def record_lines(tick_length, text):
     """What test_reader prints of a text: the refusal, or the counts, the init location and every item of the record."""
+    file = 0  # of 24; of all others it is 1 (SPECIFICATION 13.2)
     try:
-        t = ref.Text(text, judged=False)
+        ref.in_range(tick_length)
+        file = 1
+        t = ref.Text(tick_length, text, judged=False)
     except ref.Refused as r:
-        return [" refused %d 1 %d %d" % (r.answer[0], *r.answer[2:])]
+        return [" refused %d %d %d %d" % (r.answer[0], file, *r.answer[2:])]
 
     def joined(comparisons):
         return "".join(f" {clock} {sign} {value}" for clock, sign, value in comparisons)
@@ -434,15 +483,17 @@ def record_lines(text):
 
 
 def records():
-    """The expected output of test_reader: each text ends at `%`, and the byte after it says how many spaces go with it."""
+    """The expected output of test_reader: each text ends at `%`, and the byte after it says how many spaces go with it. A space, the tick
+    length and a line feed follow."""
     data, lines, at, count = (CRATES / "test_reader" / "stdin").read_bytes(), [], 0, 0
     while at < len(data):
         end, count = data.index(b"%", at), count + 1
-        text, how = data[at:end], data[end + 1:end + 2]
+        line_end = data.index(b"\n", end)
+        text, (how, tick) = data[at:end], data[end + 1:line_end].split(b" ")
         text = {b"0": text, b"1": text.ljust(LONG), b"2": text.ljust(LONG + 1), b"3": text.rjust(LONG)}[how]
-        first, *rest = record_lines(text)
+        first, *rest = record_lines(int(tick), text)
         lines += [f"{count}{first}", *rest]
-        at = end + 3
+        at = line_end + 1
     assert len(data) <= BUFFER
     (CRATES / "test_reader" / "stdout").write_text("\n".join(lines) + "\n")
     print("test_reader", count, "texts,", len(data), "bytes")
@@ -455,10 +506,10 @@ def uncapped(seed=5, texts=200, steps=40):
     for _ in range(texts):
         text = random_text(rng, [("a", "?"), ("b", "!")], ["x", "y", "z"][:rng.randrange(4)], 2)
         try:
-            t = ref.Text(text)
+            t = ref.Text(TICK, text)
         except ref.Refused:
             continue
-        config, reachable, is_implementation = (t.init, (0,) * len(t.clocks)), t.reachable(), not ref.implementation(text)
+        config, reachable, is_implementation = (t.init, (0,) * len(t.clocks)), t.reachable(), not ref.implementation(TICK, text)
         for _ in range(steps):
             moves = {c: t.step(config, c) for c in range(3)}
             assert t.number(*config) in reachable
@@ -468,28 +519,39 @@ def uncapped(seed=5, texts=200, steps=40):
 
 
 def stated():
-    """What SPECIFICATION 16.2 to 16.8 states of the posts is what this reading gives."""
+    """What SPECIFICATION 16.2 to 16.9 states of the posts is what this reading gives."""
     P, big, run = POSTS, bytes(512), [0] * 9
-    assert ref.read(POST).count == 10 and ref.safe_states(POST, big)[0] == (9, 1) and ref.safe_states(P["Hush"], big)[0] == (5, 0)
-    assert ref.read(P["Strict"]).count == 12 and ref.safe_states(P["Strict"], big)[0] == (10, 1)
-    assert ref.search(P["Hush"], POST, big, 100, 100, run)[0] == (17, 1, 0, 0)
+    for name, states, safe in (("Post", 10, (9, 1)), ("Hush", 10, (5, 0)), ("Strict", 12, (10, 1))):
+        assert ref.read(TICK, P[name]).count == states and ref.safe_states(TICK, P[name], big)[0] == safe
+    assert ref.search(TICK, P["Hush"], POST, big, 100, 100, run)[0] == (17, 1, 0, 0)
     for left, right, steps in (("Post", "Post", []), ("Early", "Post", [0, 0, 3]), ("Idle", "Post", [0] * 4), ("Post", "Idle", [0, 0, 0, 3]),
                                ("Post", "Hush", [0, 0, 0, 3]), ("Rearm", "Post", [0, 0, 0, 2, 0]), ("Strict", "Post", []), ("Post", "Strict", [])):
-        n, _, found = ref.search(P[left], P[right], big, 120, 120, run)
+        n, _, found = ref.search(TICK, P[left], P[right], big, 120, 120, run)
         assert n == len(steps) and found[:n] == steps, (left, right, n, found)
-    answer, _, table = ref.widest(POST, POST, big, bytes(29))
+    answer, _, table = ref.widest(TICK, POST, POST, big, bytes(29))
     assert answer == (29, 1) and table[9:] == bytes.fromhex("80004000200010000000" + "07C0" * 5)
-    assert ref.widest(POST, POST, big, bytes(28))[0] == (14, 0, 29, 0) and ref.widest(P["Rearm"], POST, big, bytes(29))[0] == (25, 0)
-    assert all(ref.widest(P[l], P[r], big, bytes(40))[0] == (34, 1) for l, r in (("Strict", "Post"), ("Post", "Strict")))
-    diagonal = {(s, s) for s in ref.read(POST).safe()}
+    assert ref.widest(TICK, POST, POST, big, bytes(28))[0] == (14, 0, 29, 0) and ref.widest(TICK, P["Rearm"], POST, big, bytes(29))[0] == (25, 0)
+    assert all(ref.widest(TICK, P[l], P[r], big, bytes(40))[0] == (34, 1) for l, r in (("Strict", "Post"), ("Post", "Strict")))
+    diagonal = {(s, s) for s in ref.read(TICK, POST).safe()}
     for pairs, answer in ((diagonal, (9,)), ({(0, 0)}, (20, 0, 0, 0))):
-        assert ref.check(POST, POST, big, ref.header(10, 10) + ref.raster(pairs, 10, 10))[0] == answer
+        assert ref.check(TICK, POST, POST, big, ref.header(10, 10) + ref.raster(pairs, 10, 10))[0] == answer
     assert ref.program(P["Rearm"], POST) == b"NO 5\ntick\ntick\ntick\nspike?\ntick\n" and ref.program(POST, POST) == b"YES 29\n"
     for text, answer in implementations.posts():
-        assert ref.implementation(text) == answer, (text, ref.implementation(text))
-    assert ref.read(P["Spare"]).count == 15 and 10 not in ref.read(P["Spare"]).reachable()
-    for text, line in known_readings() + strict_readings():
-        assert reading_line(text).startswith(line), (text, reading_line(text))
+        assert ref.implementation(TICK, text) == answer, (text, ref.implementation(TICK, text))
+    assert ref.read(TICK, P["Spare"]).count == 15 and 10 not in ref.read(TICK, P["Spare"]).reachable()
+    stated_of_sheet()
+    for tick, text, line in [*((TICK, *case) for case in known_readings() + strict_readings()), *tick_lengths.readings()]:
+        assert reading_line(tick, text).startswith(line), (tick, text, line, reading_line(tick, text))
+
+
+def stated_of_sheet():
+    """SPECIFICATION 16.9."""
+    post, second = ref.read(TICK, POST), ref.read(1000, SHEET)
+    assert second.count == 10 and (second.invariants, second.edges, second.marks) == (post.invariants, post.edges, post.marks)
+    half = ref.read(2000, SHEET)
+    assert half.count == 8 and half.invariants[0] == [(0, "<=", 2)] and half.edges[2][2] == [(0, ">=", 1)]
+    assert ref.implementation(2000, SHEET) == (22, 1, 1, 3) and ref.implementation(60000, SHEET) == ()
+    assert ref.implementation(TICK, SHEET) == (6, 1, SHEET.index(b"3000"), 0)
 
 
 def operations():
@@ -500,6 +562,8 @@ def operations():
     lengths(cases)
     tables(cases)
     strict_pairs(cases)
+    scaled_pairs(cases)
+    lengths_out_of_range(cases)
     many_states(cases)
     random_pairs(cases, 1)
     missing = every_code() - cases.codes

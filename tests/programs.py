@@ -4,7 +4,7 @@
 `megzhoi` and `widest` read left.xta and right.xta, `recheck` table.pbm too, and `implementation` left.xta alone; each pair gets all
 four, `recheck` with the table that `widest` must have made, with damaged ones and with none. The pairs are the examples, texts with
 one fault each, texts at each limit (SPECIFICATION 4.3), texts with strict signs, files that are missing, too long or no files, and
-random texts (seeded).
+random texts (seeded). The programs read with tick length 1 (SPECIFICATION 14.1, 14.5, 14.7).
 `implementation` is also run with no file but left.xta, on texts with a known answer (tests/implementations.py).
 Run it at the repository's root, with the programs in target/bin; the exit status is 0 when nothing differs.
 """
@@ -17,7 +17,7 @@ from collections import Counter
 
 import implementations
 import reference as ref
-from texts import (POST, POSTS, beat, clocked, counts, faults, is_small, late, long_edges, random_pair, rows, swapped, telling_pairs, wide)
+from texts import (POST, POSTS, TICK, beat, clocked, counts, faults, is_small, late, long_edges, random_pair, rows, swapped, telling_pairs, wide)
 
 LONG = ref.LIMITS["text"]
 BUFFER = 65536  # what a program reads of a text at most
@@ -191,7 +191,7 @@ def known_answers(runner):
     for name in ("right.xta", "table.pbm"):
         runner.put(name, None)
     for i, (text, answer) in enumerate(implementations.known()):
-        assert ref.implementation(text) == answer
+        assert ref.implementation(TICK, text) == answer
         runner.one(runner.put("left.xta", text), f"known {i}")
 
 

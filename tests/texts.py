@@ -1,4 +1,7 @@
-"""Texts for the tests: the examples, texts with one fault each, texts of a given size, and random ones (seeded by the caller)."""
+"""Texts for the tests: the examples, texts with one fault each, texts of a given size, and random ones (seeded by the caller).
+
+Their constants are ticks; `in_milliseconds` writes them for another tick length than 1."""
+import re
 from copy import copy
 from functools import partial
 from pathlib import Path
@@ -6,7 +9,9 @@ from pathlib import Path
 import reference as ref
 
 POSTS = {p.stem: p.read_bytes() for p in sorted((Path(__file__).parent.parent / "examples").glob("*.xta"))}
-POST = POSTS["Post"]
+POST, SHEET = POSTS["Post"], POSTS["Sheet"]
+TICK = ref.PROGRAM_TICK  # the tick length with which a constant is as many ticks as it says
+OUT_OF_RANGE = (0, ref.TICK_LENGTHS[-1] + 1, 2 ** 64 - 1)  # words that are no tick length
 
 
 def swapped(text, *pairs):
@@ -66,6 +71,17 @@ def clocked(bounds, reset, late_at=0):
             f"On -> On {{ sync go?; assign {names[0]} = 0; }},\n"
             f"On -> On {{ sync stop?;{' assign ' + assign + ';' if reset else ''} }},\n"
             f"On -> On {{ guard {guard}; sync late!; assign {', '.join(c + ' = 0' for c in names)}; }};\n}}\nsystem Many;\n").encode()
+
+
+def bounded(invariant):
+    """Post with another invariant."""
+    return swapped(POST, (b"x <= 3", invariant))
+
+
+def guarded(guards, mark="?"):
+    """One location and one channel, an edge for each guard."""
+    edges = ", ".join(f"A -> A {{ guard {g}; sync a{mark}; }}" if g else f"A -> A {{ sync a{mark}; }}" for g in guards)
+    return f"broadcast chan a; process P() {{ clock x; state A; init A; trans {edges}; }} system P;".encode()
 
 
 def wide(count):
@@ -134,6 +150,20 @@ def random_text(rng, channels, clocks, most):
     return (out + "}\nsystem P;\n").encode()
 
 
+def random_length(rng):
+    """A tick length: even and odd ones, the longest, and any."""
+    return rng.choice((2, 3, 4, 7, 10, 999, 1000, ref.TICK_LENGTHS[-1], rng.choice(ref.TICK_LENGTHS)))
+
+
+def in_milliseconds(rng, text, tick_length):
+    """The text with each constant as milliseconds that come to its ticks: the whole ones, the first, the last, or any (SPECIFICATION 4.7)."""
+    def written(found):
+        whole, half = int(found[2]) * tick_length, tick_length // 2
+        first, last = max(whole - half, 0), whole + tick_length - half - 1
+        return found[1] + b"%d" % rng.choice((whole, first, last, rng.randint(first, last)))
+    return re.sub(rb"((?:[<>]=?|==)\s*)(\d+)", written, text)
+
+
 def damaged(rng, text):
     at = rng.randrange(len(text))
     return rng.choice((text[:at] + text[at + 1:], text[:at] + bytes([rng.randrange(128)]) + text[at + 1:], text[:at]))
@@ -158,10 +188,10 @@ def random_pair(rng, clocks=None, damage=0.12):
     return left, right
 
 
-def counts(left, right):
+def counts(left, right, tick_length=TICK):
     """The state counts of two texts, None where they are refused."""
     try:
-        two = ref.both(left, right)
+        two = ref.both(tick_length, left, right)
         return two.left.count, two.right.count
     except ref.Refused:
         return None
@@ -219,7 +249,7 @@ def kinds_of(left, right):
     """What the pair shows."""
     if counts(left, right) is None:
         return {"refused"}
-    two = ref.both(left, right)
+    two = ref.both(TICK, left, right)
     two.right_safe, two.lax = two.right.safe(), (lax(two.left), lax(two.right))
     if two.left.start not in two.safe:
         return {"start"}

@@ -1,5 +1,6 @@
 //! Those that are held against each other: an older build of the library (MEGZHOI_BEFORE), this one and plain Rust.
 
+use crate::operations::TICK;
 use boundary::{Build, Operations, Returned};
 use std::rc::Rc;
 
@@ -23,7 +24,7 @@ pub fn contenders(others: &[(&'static str, Rc<dyn Operations>)]) -> Vec<Contende
 
 /// Those that have the implementation check: an older build may lack it.
 pub fn with_implementation(contenders: &[Contender]) -> Vec<Contender> {
-    let has = |contender: &&Contender| contender.operations.implementation(&[]).is_some();
+    let has = |contender: &&Contender| contender.operations.implementation(TICK, &[]).is_some();
     contenders.iter().filter(has).cloned().collect()
 }
 

@@ -31,19 +31,6 @@ pub judged-done : (t : Text) (m h m′ h′ : List ℕ) (j : Judged) (r : Readin
 unfolding judged-loading
 judged-done t m h m′ h′ j r (a, b, c) e = rw (e, a, b, c)
 
--- what is read is well formed
-pub load-formed : (s : List ℕ) (p : Parsed) → p ≡ read-text s → p .answer ≡ verdict.Accepted → Well-formed (p .text)
-load-formed s p e a = rw e (read-formed s (sym (ap (λ (x : Parsed). x .answer) e) ∙ a))
-
--- a refused text is measured by anything
-pub measured-refused : (s : List ℕ) (m : Measured) (f : Refusal) → m .parsed ≡ read-text s
-    → m .parsed .answer ≡ verdict.Refused f → Measures s m
-measured-refused s m f e a = record { parsed = e; counted = record { counts = λ b. refused-accepted f (sym a ∙ b) } }
-
-pub measured-accepted : (s : List ℕ) (m : Measured) → m .parsed ≡ read-text s
-    → Counted (m .parsed .text) (m .ranges) (m .states) → Measures s m
-measured-accepted s m e c = record { parsed = e; counted = record { counts = λ b. c } }
-
 module _ (m : Measured) (moves holds : List ℕ) where
   pub loads-refused : (f : Refusal) (r : Reading) → m .parsed .answer ≡ verdict.Refused f → r ≡ refused f
       → loading r moves holds ≡ measured-loading m moves holds
@@ -54,3 +41,18 @@ module _ (m : Measured) (moves holds : List ℕ) where
       → l ≡ measured-loading m moves holds
   unfolding measured-loading parsed-loading
   loads-judged l a q = q ∙ rw a
+
+module _ (period : ℕ) where
+  -- what is read is well formed
+  pub load-formed : (s : List ℕ) (p : Parsed) → p ≡ read-text period s → p .answer ≡ verdict.Accepted
+      → Well-formed (p .text)
+  load-formed s p e a = rw e (read-formed period s (sym (ap (λ (x : Parsed). x .answer) e) ∙ a))
+
+  -- a refused text is measured by anything
+  pub measured-refused : (s : List ℕ) (m : Measured) (f : Refusal) → m .parsed ≡ read-text period s
+      → m .parsed .answer ≡ verdict.Refused f → Measures period s m
+  measured-refused s m f e a = record { parsed = e; counted = record { counts = λ b. refused-accepted f (sym a ∙ b) } }
+
+  pub measured-accepted : (s : List ℕ) (m : Measured) → m .parsed ≡ read-text period s
+      → Counted (m .parsed .text) (m .ranges) (m .states) → Measures period s m
+  measured-accepted s m e c = record { parsed = e; counted = record { counts = λ b. c } }

@@ -19,40 +19,41 @@ use Rattle.clocks_read.specs.Reading.{read-outcome}
 use Rattle.clocks_read.specs.Loading.{Loading, loading, load-outcome}
 use Rattle.clocks_read.specs.Laws.{read-accepted, load-reading, load-moves, load-holds}
 
-module _ (s m h : List ℕ) (r : Reading) (m′ h′ : List ℕ) (e : loading r m′ h′ ≡ load-outcome s m h) where
-  reading-is : r ≡ read-outcome s
-  reading-is = ap (λ (l : Loading). l .reading) e ∙ load-reading s m h
+module _ (period : ℕ) (s m h : List ℕ) (r : Reading) (m′ h′ : List ℕ)
+    (e : loading r m′ h′ ≡ load-outcome period s m h) where
+  reading-is : r ≡ read-outcome period s
+  reading-is = ap (λ (l : Loading). l .reading) e ∙ load-reading period s m h
 
-  pub answer-is : (v : Verdict) → r .answer ≡ v → read-outcome s .answer ≡ v
+  pub answer-is : (v : Verdict) → r .answer ≡ v → read-outcome period s .answer ≡ v
   answer-is v a = sym (ap (λ (x : Reading). x .answer) reading-is) ∙ a
 
-  pub text-is : r .text ≡ read-outcome s .text
+  pub text-is : r .text ≡ read-outcome period s .text
   text-is = ap (λ (x : Reading). x .text) reading-is
 
   module _ (a : r .answer ≡ verdict.Accepted) where
-    accepted-is : Accepted (read-outcome s .text)
-    accepted-is = read-accepted s (answer-is verdict.Accepted a) .accepted
+    accepted-is : Accepted (read-outcome period s .text)
+    accepted-is = read-accepted period s (answer-is verdict.Accepted a) .accepted
 
     pub record-accepted : Accepted (r .text)
     record-accepted = rw text-is accepted-is
 
     pub states-are : r .states ≡ state-count (r .text)
     states-are = rw text-is (ap (λ (x : Reading). x .states) reading-is
-        ∙ read-accepted s (answer-is verdict.Accepted a) .states)
+        ∙ read-accepted period s (answer-is verdict.Accepted a) .states)
 
     pub states-few : r .states ≤ state-limit
     states-few = omega (arith, states-are, judgement-few (r .text) (record-accepted .clean))
 
-    pub slices-filled : (n : ℕ) → n ≡ state-count (read-outcome s .text) → Room n (length m) (length h)
+    pub slices-filled : (n : ℕ) → n ≡ state-count (read-outcome period s .text) → Room n (length m) (length h)
         → Filled (r .text) m′ h′
     slices-filled n q l =
-        let c = judgement-few (read-outcome s .text) (accepted-is .clean) in
-        let room = judge-room (read-outcome s .text) (accepted-is .formed) n q (omega arith) _ _ l in
+        let c = judgement-few (read-outcome period s .text) (accepted-is .clean) in
+        let room = judge-room (read-outcome period s .text) (accepted-is .formed) n q (omega arith) _ _ l in
         rw text-is (record {
           over = m;
           room = room .0;
-          moves-are = ap (λ (x : Loading). x .moves) e ∙ load-moves s m h (answer-is verdict.Accepted a);
+          moves-are = ap (λ (x : Loading). x .moves) e ∙ load-moves period s m h (answer-is verdict.Accepted a);
           under = h;
           long = room .1;
-          holds-are = ap (λ (x : Loading). x .holds) e ∙ load-holds s m h (answer-is verdict.Accepted a);
+          holds-are = ap (λ (x : Loading). x .holds) e ∙ load-holds period s m h (answer-is verdict.Accepted a);
         })

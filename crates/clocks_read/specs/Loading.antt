@@ -31,5 +31,7 @@ unfoldable pub parsed-loading : Verdict → Text → List ℕ → List ℕ → L
 parsed-loading verdict.Accepted t m h = judged-loading t m h
 parsed-loading (verdict.Refused f) t m h = record { reading = refused f; moves = m; holds = h }
 
-unfoldable pub load-outcome : List ℕ → List ℕ → List ℕ → Loading
-load-outcome s m h = parsed-loading (read-text s .answer) (read-text s .text) m h
+-- at one tick length, `period` (SPECIFICATION 4.7)
+module _ (period : ℕ) where
+  unfoldable pub load-outcome : List ℕ → List ℕ → List ℕ → Loading
+  load-outcome s m h = parsed-loading (read-text period s .answer) (read-text period s .text) m h

@@ -13,11 +13,13 @@ use Rattle.clocks_read.specs.Loading.{Loading, parsed-loading}
 pub record Well-measured (m : Measured) : Type 0 where
   pub counts : m .parsed .answer ≡ verdict.Accepted → Counted (m .parsed .text) (m .ranges) (m .states)
 
--- m is the text s, parsed and measured
-pub record Measures (s : List ℕ) (m : Measured) : Type 0 where
-  pub parsed : m .parsed ≡ read-text s
-  pub counted : Well-measured m
-
 -- the judgement of codes 9 to 11 on it, with the slices
 unfoldable pub measured-loading : Measured → List ℕ → List ℕ → Loading
 measured-loading m moves holds = parsed-loading (m .parsed .answer) (m .parsed .text) moves holds
+
+-- at one tick length, `period` (SPECIFICATION 4.7)
+module _ (period : ℕ) where
+  -- m is the text s, parsed and measured
+  pub record Measures (s : List ℕ) (m : Measured) : Type 0 where
+    pub parsed : m .parsed ≡ read-text period s
+    pub counted : Well-measured m

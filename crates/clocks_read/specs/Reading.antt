@@ -25,11 +25,13 @@ judged-reading (TooManyStates n) t = refused (too-many-states n)
 judged-reading (NoMove s c) t = refused (input-without-move s c)
 judged-reading (TwoEdges s c) t = refused (two-edges s c)
 
--- codes 1 to 8 come before them (SPECIFICATION 13.4)
+-- codes 24 and 1 to 8 come before them (SPECIFICATION 13.4)
 unfoldable pub parsed-reading : Verdict → Text → Reading
 parsed-reading verdict.Accepted t = judged-reading (judgement t) t
 parsed-reading (verdict.Refused f) t = refused f
 
--- reading: the answer, the record and the state count (SPECIFICATION 12.1)
-unfoldable pub read-outcome : List ℕ → Reading
-read-outcome s = parsed-reading (read-text s .answer) (read-text s .text)
+-- at one tick length, `period` (SPECIFICATION 4.7)
+module _ (period : ℕ) where
+  -- reading: the answer, the record and the state count (SPECIFICATION 12.1)
+  unfoldable pub read-outcome : List ℕ → Reading
+  read-outcome s = parsed-reading (read-text period s .answer) (read-text period s .text)

@@ -1,5 +1,5 @@
-// The operation that reads a text (SPECIFICATION 12.1): it is judged by codes 1 to 11, and its record and state count
-// are returned.
+// The operation that reads a text (SPECIFICATION 12.1): it is judged by codes 24 and 1 to 11, and its record and state
+// count are returned.
 use clocks::Judged;
 use clocks::Ranges;
 use limits::FEW_BYTES;
@@ -71,11 +71,11 @@ fn no_ranges() -> Ranges {
     Ranges { x: 1, y: 1, z: 1 }
 }
 
-// Parses a text and counts its states.
-pub fn measure(text: &[u8]) -> Measured
-    ensures { λ r. ⌜ Measures (now (text .entry)) r ⌝ }
+// Parses a text at a tick length and counts its states.
+pub fn measure(period: usize, text: &[u8]) -> Measured
+    ensures { λ r. ⌜ Measures period (now (text .entry)) r ⌝ }
 {
-    let parsed = reader::parse(text);
+    let parsed = reader::parse(period, text);
     let answer = parsed.answer;
     match answer {
         Verdict::Refused(_) => {

@@ -54,27 +54,28 @@ bits-table n X d l = ext-getD false (table n (bit-at (packed n X d))) X (length-
 safe-size : (t : Text) → Accepted t → length (safe-states t) ≡ state-count t
 safe-size t a = ap length (safe-states-same t a) ∙ unfold system in safe-length (system t a)
 
-module _ (s : List ℕ) (a : Accepted-text s) (keep : List ℕ) where
+module _ (period : ℕ) (s : List ℕ) (a : Accepted-text period s) (keep : List ℕ) where
   abbrev t : Text
-  t = text-of s
+  t = text-of period s
 
-  abbrev accepted : Accepted (text-of s)
-  accepted = read-accepted s a .accepted
+  abbrev accepted : Accepted (text-of period s)
+  accepted = read-accepted period s a .accepted
 
   -- a keep that is not refused with 13 is long enough
-  keep-long : Long-enough (safe-refusal (safe-outcome s keep .answer)) → ltb (length keep) (bytes-for (state-count t))
+  keep-long : Long-enough (safe-refusal (safe-outcome period s keep .answer))
+      → ltb (length keep) (bytes-for (state-count t))
       ≡ false
   unfolding safe-outcome answered
   keep-long l = kept-long t keep (ltb (length keep) (bytes-for (state-count t))) refl
       (subst (λ (r : Verdict). Long-enough (safe-refusal (answered r t keep .answer))) a l)
 
   -- it gives what it should
-  pub safe-demand : Long-enough (safe-refusal (safe-outcome s keep .answer))
-      → Safe-demand s a keep (safe-outcome s keep)
+  pub safe-demand : Long-enough (safe-refusal (safe-outcome period s keep .answer))
+      → Safe-demand period s a keep (safe-outcome period s keep)
   safe-demand l =
       let f = keep-long l in
       let room : bytes-for (state-count t) ≤ length keep = ltb-false (length keep) (bytes-for (state-count t)) f in
-      subst (λ (o : Outcome). Safe-demand s a keep o) (sym (succeeds s keep a room)) (given f)
+      subst (λ (o : Outcome). Safe-demand period s a keep o) (sym (succeeds period s keep a room)) (given f)
     where
       start-same : at (safe-states t) (start-state t) ≡ finite.safe (system t accepted) (system t accepted .start)
       start-same = unfold system in ap (λ (X : List Bool). at X (start-state t)) (safe-states-same t accepted)
@@ -85,30 +86,30 @@ module _ (s : List ℕ) (a : Accepted-text s) (keep : List ℕ) where
       bits f = unfold system in ap (λ (X : List Bool). packed (state-count t) X keep)
           (sym (safe-states-same t accepted))
 
-      written : ltb (length keep) (bytes-for (state-count t)) ≡ false → (S : meaning s a .State → Type 0)
-          → Largest-safe-set (meaning s a) S
-          → Keeps (states s) (number s a) S keep (packed (state-count t) (safe-states t) keep)
+      written : ltb (length keep) (bytes-for (state-count t)) ≡ false → (S : meaning period s a .State → Type 0)
+          → Largest-safe-set (meaning period s a) S
+          → Keeps (states period s) (number period s a) S keep (packed (state-count t) (safe-states t) keep)
       written f S q =
-          subst (λ (n : ℕ). Keeps n (number s a) S keep (packed (state-count t) (safe-states t) keep))
-          (sym (numbered-states s a accepted))
-          (subst (λ (g : meaning s a .State → ℕ). Keeps (system t accepted .size) g S keep
-          (packed (state-count t) (safe-states t) keep)) (sym (numbered-number s a accepted))
-          (subst (Keeps (system t accepted .size) (one-capping s a accepted .cap) S keep) (bits f)
-          (keeps (one-capping s a accepted) S q keep (unfold system in f))))
+          subst (λ (n : ℕ). Keeps n (number period s a) S keep (packed (state-count t) (safe-states t) keep))
+          (sym (numbered-states period s a accepted))
+          (subst (λ (g : meaning period s a .State → ℕ). Keeps (system t accepted .size) g S keep
+          (packed (state-count t) (safe-states t) keep)) (sym (numbered-number period s a accepted))
+          (subst (Keeps (system t accepted .size) (one-capping period s a accepted .cap) S keep) (bits f)
+          (keeps (one-capping period s a accepted) S q keep (unfold system in f))))
 
-      given : ltb (length keep) (bytes-for (state-count t)) ≡ false → Safe-demand s a keep (found-outcome t keep)
+      given : ltb (length keep) (bytes-for (state-count t)) ≡ false → Safe-demand period s a keep (found-outcome t keep)
       given f = unfold found-outcome in record {
         count = ones (safe-states t);
         start = at (safe-states t) (start-state t);
         answer = refl;
         start-safe = λ S q.
-            let i = start-safe-iff (one-capping s a accepted) in
-            let j = same-safe (safe-states-largest (one-capping s a accepted)) q (meaning s a .start) in
+            let i = start-safe-iff (one-capping period s a accepted) in
+            let j = same-safe (safe-states-largest (one-capping period s a accepted)) q (meaning period s a .start) in
             (λ x. j .0 (i .0 (subst T start-same x)), λ x. subst T (sym start-same) (i .1 (j .1 x)));
         start-means =
-            let i = implementation-iff (one-capping s a accepted) in
+            let i = implementation-iff (one-capping period s a accepted) in
             (λ x. i .1 (subst T start-same x), λ x. subst T (sym start-same) (i .0 x));
         kept = λ S q. written f S q;
-        count-is = rw (states-are s a) (ap ones
+        count-is = rw (states-are period s a) (ap ones
             (sym (bits-table (state-count t) (safe-states t) keep (safe-size t accepted))));
       }

@@ -15,16 +15,18 @@ use Rattle.safe_states.specs.Outcome.{Outcome}
 use Rattle.demands.specs.Words.{Consistent, Keep-written}
 use Rattle.guarantees.specs.Texts.{Accepted-text, states, meaning, number}
 
--- What is asked of the outcome o, where keep came as `keep`.
-pub record Safe-demand (s : List ℕ) (a : Accepted-text s) (keep : List ℕ) (o : Outcome) : Type 1 where
-  -- the answer is a count and a truth value (SPECIFICATION 12.2)
-  pub count : ℕ
-  pub start : Bool
-  pub answer : o .answer ≡ Found count start
-  -- the start is safe exactly when some implementation satisfies the text (SPECIFICATION 8.3)
-  pub start-safe : (S : meaning s a .State → Type 0) → Largest-safe-set (meaning s a) S → T start
-      ↔ S (meaning s a .start)
-  pub start-means : T start ↔ Consistent (meaning s a)
-  -- keep holds the safe states, and the count is that of the bits set (SPECIFICATION 8.4, 12.2)
-  pub kept : Keep-written (meaning s a) (states s) (number s a) keep (o .keep)
-  pub count-is : count ≡ ones (table (states s) (bit-at (o .keep)))
+-- at one tick length, `period` (SPECIFICATION 4.7)
+module _ (period : ℕ) where
+  -- What is asked of the outcome o, where keep came as `keep`.
+  pub record Safe-demand (s : List ℕ) (a : Accepted-text period s) (keep : List ℕ) (o : Outcome) : Type 1 where
+    -- the answer is a count and a truth value (SPECIFICATION 12.2)
+    pub count : ℕ
+    pub start : Bool
+    pub answer : o .answer ≡ Found count start
+    -- the start is safe exactly when some implementation satisfies the text (SPECIFICATION 8.3)
+    pub start-safe : (S : meaning period s a .State → Type 0) → Largest-safe-set (meaning period s a) S → T start
+        ↔ S (meaning period s a .start)
+    pub start-means : T start ↔ Consistent (meaning period s a)
+    -- keep holds the safe states, and the count is that of the bits set (SPECIFICATION 8.4, 12.2)
+    pub kept : Keep-written (meaning period s a) (states period s) (number period s a) keep (o .keep)
+    pub count-is : count ≡ ones (table (states period s) (bit-at (o .keep)))

@@ -7,3 +7,5 @@ pub mod Counted
 pub mod Compared
 pub mod Implementations
 pub mod Implemented
+pub mod Lengths
+pub mod Allowed

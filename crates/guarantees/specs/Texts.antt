@@ -17,36 +17,38 @@ use Rattle.two_texts.specs.Two.{text-of, step-of}
 use Rattle.safe_states.specs.declared.SafeAnswer.{SafeAnswer}
 use Rattle.safe_states.specs.declared.SafeAnswer.the-variants.{Found, Refused}
 
--- an accepted text: reading gives no refusal (SPECIFICATION 7.4)
-abbrev pub Accepted-text : List ℕ → Type 0
-Accepted-text s = read-outcome s .answer ≡ verdict.Accepted
-
--- the number of its states, as reading returns it (SPECIFICATION 12.1)
-abbrev pub states : List ℕ → ℕ
-states s = read-outcome s .states
-
--- its system, clocks uncapped: this is what it means (SPECIFICATION 6.6)
-abbrev pub meaning : (s : List ℕ) → Accepted-text s → System (signature (text-of s))
-meaning s a = uncapped (text-of s) (read-accepted s a .accepted .formed)
-
--- the state number of a configuration, that is of a location and values of the clocks (SPECIFICATION 6.5)
-abbrev pub number : (s : List ℕ) (a : Accepted-text s) → meaning s a .State → ℕ
-unfolding uncapped
-number s a x = state (ranges (text-of s)) x
-
--- the right's system, its steps by the left's numbers (SPECIFICATION 9.2)
-abbrev pub right-meaning : (left right : List ℕ) → Accepted-text right → System (signature (text-of left))
-right-meaning left right b = renumbered-system (step-of left right) (meaning right b)
-
-abbrev pub right-number : (left right : List ℕ) (b : Accepted-text right) → right-meaning left right b .State → ℕ
-unfolding uncapped renumbered-system
-right-number left right b y = state (ranges (text-of right)) y
-
--- two texts with equal channels (SPECIFICATION 9.1)
-abbrev pub Equal-channels : List ℕ → List ℕ → Type 0
-Equal-channels left right = channels.Equal-channels left (text-of left) right (text-of right)
-
 -- the refusal of the safe-state operation's answer, if it is one
 unfoldable pub safe-refusal : SafeAnswer → Option Refusal
 safe-refusal (Found n b) = none
 safe-refusal (Refused r) = some r
+
+-- at one tick length, `period` (SPECIFICATION 4.7)
+module _ (period : ℕ) where
+  -- an accepted text: reading gives no refusal (SPECIFICATION 7.4)
+  abbrev pub Accepted-text : List ℕ → Type 0
+  Accepted-text s = read-outcome period s .answer ≡ verdict.Accepted
+
+  -- the number of its states, as reading returns it (SPECIFICATION 12.1)
+  abbrev pub states : List ℕ → ℕ
+  states s = read-outcome period s .states
+
+  -- its system, clocks uncapped: this is what it means (SPECIFICATION 6.6)
+  abbrev pub meaning : (s : List ℕ) → Accepted-text s → System (signature (text-of period s))
+  meaning s a = uncapped (text-of period s) (read-accepted period s a .accepted .formed)
+
+  -- the state number of a configuration, that is of a location and values of the clocks (SPECIFICATION 6.5)
+  abbrev pub number : (s : List ℕ) (a : Accepted-text s) → meaning s a .State → ℕ
+  unfolding uncapped
+  number s a x = state (ranges (text-of period s)) x
+
+  -- the right's system, its steps by the left's numbers (SPECIFICATION 9.2)
+  abbrev pub right-meaning : (left right : List ℕ) → Accepted-text right → System (signature (text-of period left))
+  right-meaning left right b = renumbered-system (step-of period left right) (meaning right b)
+
+  abbrev pub right-number : (left right : List ℕ) (b : Accepted-text right) → right-meaning left right b .State → ℕ
+  unfolding uncapped renumbered-system
+  right-number left right b y = state (ranges (text-of period right)) y
+
+  -- two texts with equal channels (SPECIFICATION 9.1)
+  abbrev pub Equal-channels : List ℕ → List ℕ → Type 0
+  Equal-channels left right = channels.Equal-channels left (text-of period left) right (text-of period right)

@@ -25,66 +25,69 @@ use Rattle.guarantees_starred.specs.Sentences.{Room, ten-by-ten, diagona
 use Rattle.guarantees_starred.specs.Tables.{diagonal-fits}
 use Rattle.guarantees_starred.specs.Outcomes.{left-accepted, right-accepted, channels-equal, facts}
 use Rattle.guarantees_starred.specs.Starred.{starred-posts}
+use Rattle.limits.specs.Limits.{shortest-tick}
 
 -- an accepted text
-pub post-accepted : Accepted-text post
+pub post-accepted : Accepted-text shortest-tick post
 post-accepted = left-accepted post-known post-known post-post-equal
 
 -- an accepted text with strict signs (SPECIFICATION 16.2)
-pub strict-accepted : Accepted-text strict
+pub strict-accepted : Accepted-text shortest-tick strict
 strict-accepted = left-accepted strict-known post-known strict-post-equal
 
 -- texts for which the implementation check succeeds, gives 22 and gives 23: what SPECIFICATION 17.8 says of each answer
 -- is said of one
-pub post-own : Own-implementation (meaning post post-accepted) (number post post-accepted)
-post-own = implementation-exactly post .itself (starred-posts .post-passes) post-accepted
+pub post-own : Own-implementation (meaning shortest-tick post post-accepted) (number shortest-tick post post-accepted)
+post-own = implementation-exactly shortest-tick post .itself (starred-posts .post-passes) post-accepted
 
-pub loose-says : (a : Accepted-text loose) × Says (meaning loose a) (number loose a) (OutputBesideTick 2 3)
-loose-says = implementation-exactly loose .beside 2 3 .0 (starred-posts .loose-beside)
+pub loose-says : (a : Accepted-text shortest-tick loose)
+    × Says (meaning shortest-tick loose a) (number shortest-tick loose a) (OutputBesideTick 2 3)
+loose-says = implementation-exactly shortest-tick loose .beside 2 3 .0 (starred-posts .loose-beside)
 
-pub hush-says : (a : Accepted-text hush) × Says (meaning hush a) (number hush a) (NeitherPossible 3)
-hush-says = implementation-exactly hush .neither 3 .0 (starred-posts .hush-neither)
+pub hush-says : (a : Accepted-text shortest-tick hush)
+    × Says (meaning shortest-tick hush a) (number shortest-tick hush a) (NeitherPossible 3)
+hush-says = implementation-exactly shortest-tick hush .neither 3 .0 (starred-posts .hush-neither)
 
 -- equal channels
-pub post-channels : Equal-channels post post
+pub post-channels : Equal-channels shortest-tick post post
 post-channels = channels-equal post-known post-known post-post-equal
 
 -- a consistent left
-pub post-consistent : Consistent (meaning post post-accepted)
+pub post-consistent : Consistent (meaning shortest-tick post post-accepted)
 unfolding post-accepted
 post-consistent =
     let f = facts post-known post-known post-post-equal in
     let a = left-accepted post-known post-known post-post-equal in
     let b = right-accepted post-known post-known post-post-equal in
     let e = channels-equal post-known post-known post-post-equal in
-    let L = Left post post a b e in
+    let L = Left shortest-tick post post a b e in
     let s : safe L (L .start) ≡ true = ap (λ (X : List Bool). at X (L .start)) (f .safe)
     ∙ ap (at post-keep) (f .start) in
-    implementation-iff (left-capping post post a b e) .1 (subst T (sym s) tt)
+    implementation-iff (left-capping shortest-tick post post a b e) .1 (subst T (sym s) tt)
 
 -- slices that are long enough
 pub post-search-long : (keep : List ℕ) (back line : ℕ) (run : List ℕ) → Room 10 10 0 keep back line run
-    → Long-enough (search-refusal (search-outcome post post keep back line run .answer))
+    → Long-enough (search-refusal (search-outcome shortest-tick post post keep back line run .answer))
 unfolding search-refusal
 post-search-long keep back line run room =
-    no-refusal (search-refusal (search-outcome post post keep back line run .answer))
+    no-refusal (search-refusal (search-outcome shortest-tick post post keep back line run .answer))
     (ap search-refusal (starred-posts .post-post keep back line run room .0))
 
 pub post-check-long : (keep : List ℕ) → 2 ≤ length keep
-    → Long-enough (check-refusal (check-outcome post post keep (ten-by-ten diagonal-raster) .answer))
+    → Long-enough (check-refusal (check-outcome shortest-tick post post keep (ten-by-ten diagonal-raster) .answer))
 unfolding check-refusal
 post-check-long keep h =
-    no-refusal (check-refusal (check-outcome post post keep (ten-by-ten diagonal-raster) .answer))
+    no-refusal (check-refusal (check-outcome shortest-tick post post keep (ten-by-ten diagonal-raster) .answer))
     (ap check-refusal (starred-posts .diagonal keep h))
 
 pub post-widest-long : (keep table : List ℕ) → 2 ≤ length keep → 29 ≤ length table
-    → Long-enough (widest-refusal (widest-outcome post post keep table .answer))
+    → Long-enough (widest-refusal (widest-outcome shortest-tick post post keep table .answer))
 unfolding widest-refusal
 post-widest-long keep table h k =
-    no-refusal (widest-refusal (widest-outcome post post keep table .answer))
+    no-refusal (widest-refusal (widest-outcome shortest-tick post post keep table .answer))
     (ap widest-refusal (starred-posts .post-widest keep table h k .0))
 
 -- a table with a right header and a right length
-pub post-form : Right-form (states post) (states post) (ten-by-ten diagonal-raster)
+pub post-form : Right-form (states shortest-tick post) (states shortest-tick post) (ten-by-ten diagonal-raster)
 post-form = subst T (ap (λ (n : ℕ). fits n n (ten-by-ten diagonal-raster)) (sym (starred-posts .post-states)))
     (subst T (sym diagonal-fits) tt)

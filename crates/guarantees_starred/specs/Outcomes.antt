@@ -38,6 +38,7 @@ use Rattle.guarantees.specs.Setting.{both, search-is, check-is, widest-is}
 use Rattle.guarantees_starred.specs.Sentences.{Room, Searches}
 use Rattle.guarantees_starred.specs.Posts.{Known}
 use Rattle.guarantees_starred.specs.Runs.{Pair, left-of, right-of}
+use Rattle.limits.specs.Limits.{shortest-tick}
 
 either-false : (a b : Bool) → a ≡ false → b ≡ false → (a || b) ≡ false
 either-false a b p q = rw (p, q)
@@ -229,27 +230,28 @@ module _ {A : Signature} {L R : Finite-system A} {n m : ℕ} {K : List Bool} (F 
 -- two known texts whose channels are equal
 module _ {s u : List ℕ} {l r : Text} {n m : ℕ} {K J : List Bool} (x : Known s l n K) (y : Known u r m J)
     (e : unmatched s l u r ≡ Equal) where
-  pub left-accepted : Accepted-text s
+  pub left-accepted : Accepted-text shortest-tick s
   left-accepted = ap (λ (o : Reading). o .answer) (x .read)
 
-  pub right-accepted : Accepted-text u
+  pub right-accepted : Accepted-text shortest-tick u
   right-accepted = ap (λ (o : Reading). o .answer) (y .read)
 
-  left-text : l ≡ text-of s
+  left-text : l ≡ text-of shortest-tick s
   left-text = ap (λ (o : Reading). o .text) (sym (x .read))
 
-  right-text : r ≡ text-of u
+  right-text : r ≡ text-of shortest-tick u
   right-text = ap (λ (o : Reading). o .text) (sym (y .read))
 
-  pub channels-equal : Equal-channels s u
-  channels-equal = equal-when-nothing s (text-of s) u (text-of u) (named s left-accepted) (named u right-accepted)
-      (subst (λ (t : Text). unmatched s t u (text-of u) ≡ Equal) left-text
+  pub channels-equal : Equal-channels shortest-tick s u
+  channels-equal = equal-when-nothing s (text-of shortest-tick s) u (text-of shortest-tick u)
+      (named shortest-tick s left-accepted) (named shortest-tick u right-accepted)
+      (subst (λ (t : Text). unmatched s t u (text-of shortest-tick u) ≡ Equal) left-text
       (subst (λ (t : Text). unmatched s l u t ≡ Equal) right-text e))
 
-  abbrev pub compares : Compared s u
-  compares = both s u left-accepted right-accepted channels-equal
+  abbrev pub compares : Compared shortest-tick s u
+  compares = both shortest-tick s u left-accepted right-accepted channels-equal
 
-  pub facts : Facts (left-system compares) (right-system compares) n m K
+  pub facts : Facts (left-system shortest-tick compares) (right-system shortest-tick compares) n m K
   unfolding system renumbered
   facts = record {
     size = ap state-count (sym left-text) ∙ x .size;
@@ -262,61 +264,63 @@ module _ {s u : List ℕ} {l r : Text} {n m : ℕ} {K J : List Bool} (x : Known 
 
   -- what holds of the records holds of the texts
   pub of-texts : (P : (l r : Text) → Pair s u l r → Type 0) → ((p : Pair s u l r) → P l r p)
-      → P (text-of s) (text-of u) (record
+      → P (text-of shortest-tick s) (text-of shortest-tick u) (record
       { left-text = compares .left-text; right-text = compares .right-text; inputs = compares .inputs })
   of-texts P f =
-      subst (λ (t : Text). (p : Pair s u t (text-of u)) → P t (text-of u) p) left-text
+      subst (λ (t : Text). (p : Pair s u t (text-of shortest-tick u)) → P t (text-of shortest-tick u) p) left-text
       (subst (λ (t : Text). (p : Pair s u l t) → P l t p) right-text f)
       (record { left-text = compares .left-text; right-text = compares .right-text; inputs = compares .inputs })
 
   -- the left's start is not safe
   pub search-unsafe : at K 0 ≡ false → (keep : List ℕ) (back line : ℕ) (run : List ℕ)
       → Room n m 0 keep back line run
-      → search-outcome s u keep back line run ≡ search.refused (start-not-safe 0) (packed n K keep) run
+      → search-outcome shortest-tick s u keep back line run ≡ search.refused (start-not-safe 0) (packed n K keep) run
   search-unsafe unsafe keep back line run room =
-      search-is s u left-accepted right-accepted channels-equal keep back line run
+      search-is shortest-tick s u left-accepted right-accepted channels-equal keep back line run
       ∙ search-start-refused facts unsafe keep back line run room
 
   pub check-unsafe : at K 0 ≡ false → (keep table : List ℕ) → bytes-for n ≤ length keep → fits m n table ≡ true
-      → check-outcome s u keep table ≡ check-refused (start-not-safe 0) (packed n K keep)
+      → check-outcome shortest-tick s u keep table ≡ check-refused (start-not-safe 0) (packed n K keep)
   check-unsafe unsafe keep table h form =
-      check-is s u left-accepted right-accepted channels-equal keep table
+      check-is shortest-tick s u left-accepted right-accepted channels-equal keep table
       ∙ check-start-refused facts unsafe keep table h form
 
   pub widest-unsafe : at K 0 ≡ false → (keep table : List ℕ) → bytes-for n ≤ length keep
       → table-bytes m n ≤ length table
-      → widest-outcome s u keep table ≡ widest-refused (start-not-safe 0) (packed n K keep) table
+      → widest-outcome shortest-tick s u keep table ≡ widest-refused (start-not-safe 0) (packed n K keep) table
   widest-unsafe unsafe keep table h k =
-      widest-is s u left-accepted right-accepted channels-equal keep table
+      widest-is shortest-tick s u left-accepted right-accepted channels-equal keep table
       ∙ widest-start-refused facts unsafe keep table h k
 
   -- it is safe: the run, the widest table and what the scan finds are computed
   pub searched : at K 0 ≡ true → (w : List ℕ) → ((p : Pair s u l r) → search-run (left-of p) (right-of p) ≡ w)
       → Searches s u n m (length w) w
   searched safe-start w run-is keep back line run room =
-      let o : search-outcome s u keep back line run ≡ search.found w (packed n K keep) run =
-      search-is s u left-accepted right-accepted channels-equal keep back line run
+      let o : search-outcome shortest-tick s u keep back line run ≡ search.found w (packed n K keep) run =
+      search-is shortest-tick s u left-accepted right-accepted channels-equal keep back line run
       ∙ search-found facts w safe-start (of-texts (λ l r p. search-run (left-of p) (right-of p) ≡ w) run-is) keep back
       line run room in
       (ap (λ (x : search.Outcome). x .answer) o, ap (λ (x : search.Outcome). x .run) o)
 
-  pub widened : at K 0 ≡ true → (X : List Bool) → widest (left-system compares) (right-system compares) ≡ X
+  pub widened : at K 0 ≡ true → (X : List Bool)
+      → widest (left-system shortest-tick compares) (right-system shortest-tick compares) ≡ X
       → (keep table : List ℕ) → bytes-for n ≤ length keep → table-bytes m n ≤ length table
-      → widest-outcome s u keep table ≡ record {
+      → widest-outcome shortest-tick s u keep table ≡ record {
         answer = made.Made (ones X) (at X 0);
         keep = packed n K keep;
         table = table-file n m X ++ drop (table-bytes m n) table;
       }
   widened safe-start X is keep table h k =
-      widest-is s u left-accepted right-accepted channels-equal keep table
+      widest-is shortest-tick s u left-accepted right-accepted channels-equal keep table
       ∙ widest-found facts X safe-start is keep table h k
 
   pub checked : at K 0 ≡ true → (table k : List ℕ) (f : Found) → fits m n table ≡ true
       → drop (header-bytes m n) table ≡ k → set-at m k 0 0 ≡ true
       → ((p : Pair s u l r) → pairs-judged (left-of p) (right-of p) (set-at m k) ≡ f)
       → (keep : List ℕ) → bytes-for n ≤ length keep
-      → check-outcome s u keep table ≡ record { answer = scanned m (ones (denoted n m k)) f; keep = packed n K keep }
+      → check-outcome shortest-tick s u keep table
+      ≡ record { answer = scanned m (ones (denoted n m k)) f; keep = packed n K keep }
   checked safe-start table k f form behind set judged keep h =
-      check-is s u left-accepted right-accepted channels-equal keep table
+      check-is shortest-tick s u left-accepted right-accepted channels-equal keep table
       ∙ check-found facts table k f safe-start form behind set
       (of-texts (λ l r p. pairs-judged (left-of p) (right-of p) (set-at m k) ≡ f) judged) keep h

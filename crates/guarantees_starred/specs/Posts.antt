@@ -19,30 +19,33 @@ use Rattle.clocks.specs.Contract.{system}
 use Rattle.clocks_read.specs.declared.Reading.{Reading}
 use Rattle.clocks_read.specs.Reading.{judged-reading, parsed-reading, read-outcome}
 use Rattle.guarantees_starred.specs.Opened.{opened}
+use Rattle.limits.specs.Limits.{shortest-tick}
 
 -- what reading gives for a text with the record t
 abbrev pub reading-of : Text → Reading
 reading-of t = record { answer = verdict.Accepted; text = t; states = state-count t }
 
-pub read-known : (s : List ℕ) (t : Text) → read-text s ≡ record { answer = verdict.Accepted; text = t } → judgement t
-    ≡ Clean
-    → read-outcome s ≡ reading-of t
+pub read-known : (period : ℕ) (s : List ℕ) (t : Text)
+    → read-text period s ≡ record { answer = verdict.Accepted; text = t } → judgement t ≡ Clean
+    → read-outcome period s ≡ reading-of t
 unfolding read-outcome parsed-reading judged-reading
-read-known s t e c = ap (λ (p : Parsed). parsed-reading (p .answer) (p .text)) e ∙ rw c
+read-known period s t e c = ap (λ (p : Parsed). parsed-reading (p .answer) (p .text)) e ∙ rw c
 
--- what is computed of a text: it is read and accepted, the number of its states, that it starts in 0, its safe states
+-- what is computed of a text at tick length 1: it is read and accepted, the number of its states, that it starts in 0,
+-- its safe states
 pub record Known (s : List ℕ) (t : Text) (n : ℕ) (K : List Bool) : Type 0 where
-  pub read : read-outcome s ≡ reading-of t
+  pub read : read-outcome shortest-tick s ≡ reading-of t
   pub size : state-count t ≡ n
   pub start : start-state t ≡ 0
   pub safe : (a : Accepted t) → safe-states (system t a) ≡ K
 
 known :
-    {s : List ℕ} {t : Text} {n : ℕ} {K : List Bool} → read-text s ≡ record { answer = verdict.Accepted; text = t }
+    {s : List ℕ} {t : Text} {n : ℕ} {K : List Bool} → read-text shortest-tick s
+    ≡ record { answer = verdict.Accepted; text = t }
     → judgement t ≡ Clean → state-count t ≡ n → start-state t ≡ 0 → ((a : Accepted t) → safe-fast (system t a) ≡ K)
     → Known s t n K
 known {s} {t} read clean size start safe = record {
-  read = read-known s t read clean;
+  read = read-known shortest-tick s t read clean;
   size = size;
   start = start;
   safe = λ a. sym (safe-fast-same (system t a)) ∙ safe a;

@@ -20,15 +20,16 @@ use Rattle.clocks_read.specs.Laws.{read-accepted}
 use Rattle.safe_states.specs.declared.SafeAnswer.the-variants.{Found}
 use Rattle.safe_states.specs.Outcome.{Outcome, found-outcome, kept-outcome, answered, safe-outcome}
 use Rattle.guarantees_starred.specs.Posts.{Known, post-keep, post-known, strict-keep, strict-known, hush-keep, hush-known}
+use Rattle.limits.specs.Limits.{shortest-tick}
 
 -- a text that reads to the record t, whose safe states are K
 safe-found : (s : List ℕ) (t : Text) (n : ℕ) (K : List Bool) → Known s t n K → (keep : List ℕ)
-    → bytes-for n ≤ length keep → safe-outcome s keep .answer ≡ Found (ones K) (at K 0)
+    → bytes-for n ≤ length keep → safe-outcome shortest-tick s keep .answer ≡ Found (ones K) (at K 0)
 unfolding safe-outcome answered kept-outcome found-outcome
 safe-found s t n K x keep h =
     let e = x .read in
     let a : Accepted t = subst Accepted (ap (λ (o : Reading). o .text) e)
-    (read-accepted s (ap (λ (o : Reading). o .answer) e) .accepted) in
+    (read-accepted shortest-tick s (ap (λ (o : Reading). o .answer) e) .accepted) in
     let k : safe-states t ≡ K = safe-states-same t a ∙ x .safe a in
     let l : ltb (length keep) (bytes-for (state-count t)) ≡ false = le-ltb (length keep) (bytes-for (state-count t))
     (subst (λ (i : ℕ). bytes-for i ≤ length keep) (sym (x .size)) h) in
@@ -42,14 +43,14 @@ safe-found s t n K x keep h =
     long t keep l = rw (l, kept-outcome)
 
 -- the safe states of Post, of Strict and of Hush (SPECIFICATION 16.2, 16.3)
-pub post-counted : (keep : List ℕ) → 2 ≤ length keep → safe-outcome post keep .answer ≡ Found 9 true
+pub post-counted : (keep : List ℕ) → 2 ≤ length keep → safe-outcome shortest-tick post keep .answer ≡ Found 9 true
 unfolding ones
 post-counted = safe-found post post-record 10 post-keep post-known
 
-pub strict-counted : (keep : List ℕ) → 2 ≤ length keep → safe-outcome strict keep .answer ≡ Found 10 true
+pub strict-counted : (keep : List ℕ) → 2 ≤ length keep → safe-outcome shortest-tick strict keep .answer ≡ Found 10 true
 unfolding ones
 strict-counted = safe-found strict strict-record 12 strict-keep strict-known
 
-pub hush-counted : (keep : List ℕ) → 2 ≤ length keep → safe-outcome hush keep .answer ≡ Found 5 false
+pub hush-counted : (keep : List ℕ) → 2 ≤ length keep → safe-outcome shortest-tick hush keep .answer ≡ Found 5 false
 unfolding ones
 hush-counted = safe-found hush hush-record 10 hush-keep hush-known

@@ -1,12 +1,11 @@
--- The starred posts, that is the examples that are proved: what SPECIFICATION 16.2 to 16.6 and 16.8 say of the eight
--- texts.
--- Definitions only: Starred.antt proves them (SPECIFICATION 17.4).
+-- The starred posts, that is the examples that are proved: what SPECIFICATION 16.2 to 16.6, 16.8 and 16.9 say of the
+-- nine texts, at tick length 1 but for Sheet. Definitions only: Starred.antt proves them (SPECIFICATION 17.4).
 use mathlib.Core.Path.{_≡_}
 use mathlib.Core.Bool.{true, false}
 use mathlib.Core.List.{List, [], _∷_, _++_}
 use Prim.Native.Nat.{ℕ, _*_, _≤_}
 use lib.ListN.{length, drop}
-use Rattle.reader_examples.specs.Texts.{post, rearm, early, strict, loose, hush, idle, spare}
+use Rattle.reader_examples.specs.Texts.{post, rearm, early, strict, loose, sheet, hush, idle, spare}
 use Rattle.refusals.specs.declared.Verdict.the-variants as verdict
 use Rattle.systems.specs.Definitions.{tick}
 use Rattle.reachable.specs.Check.{neither}
@@ -22,6 +21,7 @@ use Rattle.safe_states.specs.declared.SafeAnswer.the-variants as counted
 use Rattle.safe_states.specs.Outcome.{safe-outcome}
 use Rattle.implementation_check.specs.Outcome.{implementation-outcome}
 use Rattle.demands.specs.Words.{Right-form}
+use Rattle.limits.specs.Limits.{shortest-tick}
 
 -- the slices of a search over n left and m right states are long enough, and the run for so many steps
 -- (SPECIFICATION 8.4, 12.4)
@@ -35,8 +35,8 @@ pub record Room (n m steps : ℕ) (keep : List ℕ) (back line : ℕ) (run : Lis
 -- slices are that are long enough
 abbrev pub Searches : List ℕ → List ℕ → ℕ → ℕ → ℕ → List ℕ → Type 0
 Searches s u n m k w = (keep : List ℕ) (back line : ℕ) (run : List ℕ) → Room n m k keep back line run
-    → (search-outcome s u keep back line run .answer ≡ Found k)
-    × (search-outcome s u keep back line run .run ≡ w ++ drop k run)
+    → (search-outcome shortest-tick s u keep back line run .answer ≡ Found k)
+    × (search-outcome shortest-tick s u keep back line run .run ≡ w ++ drop k run)
 
 -- the raster of the widest table of Post against Post (SPECIFICATION 16.4)
 abbrev pub widest-raster : List ℕ
@@ -67,23 +67,26 @@ hush-kept keep = 0x07 ∷ 0xC0 ∷ drop 2 keep
 -- the examples, one field each
 pub record Starred : Type 0 where
   -- Post: its states, and how many are safe, the start among them (SPECIFICATION 16.2)
-  pub post-states : read-outcome post .states ≡ 10
-  pub post-safe : (keep : List ℕ) → 2 ≤ length keep → safe-outcome post keep .answer ≡ counted.Found 9 true
+  pub post-states : read-outcome shortest-tick post .states ≡ 10
+  pub post-safe : (keep : List ℕ) → 2 ≤ length keep → safe-outcome shortest-tick post keep .answer
+      ≡ counted.Found 9 true
   -- Strict: the same, with M as it is written (SPECIFICATION 16.2)
-  pub strict-states : read-outcome strict .states ≡ 12
-  pub strict-safe : (keep : List ℕ) → 2 ≤ length keep → safe-outcome strict keep .answer ≡ counted.Found 10 true
+  pub strict-states : read-outcome shortest-tick strict .states ≡ 12
+  pub strict-safe : (keep : List ℕ) → 2 ≤ length keep → safe-outcome shortest-tick strict keep .answer
+      ≡ counted.Found 10 true
   -- Hush: how many states are safe, the start not among them (SPECIFICATION 16.3)
-  pub hush-safe : (keep : List ℕ) → 2 ≤ length keep → safe-outcome hush keep .answer ≡ counted.Found 5 false
+  pub hush-safe : (keep : List ℕ) → 2 ≤ length keep → safe-outcome shortest-tick hush keep .answer
+      ≡ counted.Found 5 false
   -- 17 for it as the left of all three operations: keep is written, the run and the table are as they came
   -- (SPECIFICATION 13.5, 16.3)
   pub hush-search : (keep : List ℕ) (back line : ℕ) (run : List ℕ) → Room 10 10 0 keep back line run
-      → search-outcome hush post keep back line run
+      → search-outcome shortest-tick hush post keep back line run
       ≡ record { answer = Refused (record { code = 17; file = 1; p = 0; q = 0 }); keep = hush-kept keep; run = run }
   pub hush-check : (keep table : List ℕ) → 2 ≤ length keep → Right-form 10 10 table
-      → check-outcome hush post keep table
+      → check-outcome shortest-tick hush post keep table
       ≡ record { answer = checked.Refused (record { code = 17; file = 1; p = 0; q = 0 }); keep = hush-kept keep }
   pub hush-widest : (keep table : List ℕ) → 2 ≤ length keep → 29 ≤ length table
-      → widest-outcome hush post keep table
+      → widest-outcome shortest-tick hush post keep table
       ≡ record {
         answer = made.Refused (record { code = 17; file = 1; p = 0; q = 0 });
         keep = hush-kept keep;
@@ -93,18 +96,18 @@ pub record Starred : Type 0 where
   pub post-post : Searches post post 10 10 0 []
   -- its widest table, count and bytes (SPECIFICATION 16.4)
   pub post-widest : (keep table : List ℕ) → 2 ≤ length keep → 29 ≤ length table
-      → (widest-outcome post post keep table .answer ≡ made.Made 29 true)
-      × (widest-outcome post post keep table .table ≡ ten-by-ten widest-raster ++ drop 29 table)
+      → (widest-outcome shortest-tick post post keep table .answer ≡ made.Made 29 true)
+      × (widest-outcome shortest-tick post post keep table .table ≡ ten-by-ten widest-raster ++ drop 29 table)
   -- the check of the diagonal table: accepted, with its count (SPECIFICATION 16.4)
   pub diagonal : (keep : List ℕ) → 2 ≤ length keep
-      → check-outcome post post keep (ten-by-ten diagonal-raster) .answer ≡ checked.Accepted 9
+      → check-outcome shortest-tick post post keep (ten-by-ten diagonal-raster) .answer ≡ checked.Accepted 9
   -- the check of the table with the starts alone: the tick breaks a rule (SPECIFICATION 16.4)
   pub start-only : (keep : List ℕ) → 2 ≤ length keep
-      → check-outcome post post keep (ten-by-ten start-raster) .answer
+      → check-outcome shortest-tick post post keep (ten-by-ten start-raster) .answer
       ≡ checked.Refused (record { code = 20; file = 0; p = 0; q = 0 })
   -- Rearm's widest table against Post (SPECIFICATION 16.5)
   pub rearm-widest : (keep table : List ℕ) → 2 ≤ length keep → 29 ≤ length table
-      → widest-outcome rearm post keep table .answer ≡ made.Made 25 false
+      → widest-outcome shortest-tick rearm post keep table .answer ≡ made.Made 25 false
   -- the other departures (SPECIFICATION 16.6), with their steps
   pub early-post : Searches early post 8 10 3 (tick ∷ tick ∷ 3 ∷ [])
   pub idle-post : Searches idle post 4 10 4 (tick ∷ tick ∷ tick ∷ tick ∷ [])
@@ -114,21 +117,33 @@ pub record Starred : Type 0 where
   pub strict-post : Searches strict post 12 10 0 []
   pub post-strict : Searches post strict 10 12 0 []
   pub strict-widest : (keep table : List ℕ) → 2 ≤ length keep → 33 ≤ length table
-      → widest-outcome strict post keep table .answer ≡ made.Made 34 true
+      → widest-outcome shortest-tick strict post keep table .answer ≡ made.Made 34 true
   pub strict-widened : (keep table : List ℕ) → 2 ≤ length keep → 29 ≤ length table
-      → widest-outcome post strict keep table .answer ≡ made.Made 34 true
+      → widest-outcome shortest-tick post strict keep table .answer ≡ made.Made 34 true
   -- the departure of Rearm from Post that the program prints (SPECIFICATION 16.5)
   pub rearm-post : Searches rearm post 10 10 5 (tick ∷ tick ∷ tick ∷ 2 ∷ tick ∷ [])
   -- the implementation check: five posts are implementations, and where Hush and Loose have their faults
   -- (SPECIFICATION 16.8)
-  pub post-passes : implementation-outcome post ≡ verdict.Accepted
-  pub rearm-passes : implementation-outcome rearm ≡ verdict.Accepted
-  pub early-passes : implementation-outcome early ≡ verdict.Accepted
-  pub idle-passes : implementation-outcome idle ≡ verdict.Accepted
-  pub strict-passes : implementation-outcome strict ≡ verdict.Accepted
-  pub hush-neither : implementation-outcome hush ≡ verdict.Refused (record { code = 23; file = 1; p = 3; q = 0 })
-  pub loose-beside : implementation-outcome loose ≡ verdict.Refused (record { code = 22; file = 1; p = 2; q = 3 })
+  pub post-passes : implementation-outcome shortest-tick post ≡ verdict.Accepted
+  pub rearm-passes : implementation-outcome shortest-tick rearm ≡ verdict.Accepted
+  pub early-passes : implementation-outcome shortest-tick early ≡ verdict.Accepted
+  pub idle-passes : implementation-outcome shortest-tick idle ≡ verdict.Accepted
+  pub strict-passes : implementation-outcome shortest-tick strict ≡ verdict.Accepted
+  pub hush-neither : implementation-outcome shortest-tick hush
+      ≡ verdict.Refused (record { code = 23; file = 1; p = 3; q = 0 })
+  pub loose-beside : implementation-outcome shortest-tick loose
+      ≡ verdict.Refused (record { code = 22; file = 1; p = 2; q = 3 })
   -- Spare is one too, though a state that no run leads to has neither a tick nor an output (SPECIFICATION 16.8)
-  pub spare-states : read-outcome spare .states ≡ 15
-  pub spare-fault : neither 4 (input (read-outcome spare .text)) (next (read-outcome spare .text)) 10 ≡ true
-  pub spare-passes : implementation-outcome spare ≡ verdict.Accepted
+  pub spare-states : read-outcome shortest-tick spare .states ≡ 15
+  pub spare-fault : neither 4 (input (read-outcome shortest-tick spare .text))
+      (next (read-outcome shortest-tick spare .text)) 10 ≡ true
+  pub spare-passes : implementation-outcome shortest-tick spare ≡ verdict.Accepted
+  -- Sheet at tick lengths 1,000, 2,000 and 60,000; 6 at tick length 1 and 24 at 0 (SPECIFICATION 16.9)
+  pub sheet-states : read-outcome 1000 sheet .states ≡ 10
+  pub sheet-fewer : read-outcome 2000 sheet .states ≡ 8
+  pub sheet-passes : implementation-outcome 1000 sheet ≡ verdict.Accepted
+  pub sheet-beside : implementation-outcome 2000 sheet ≡ verdict.Refused (record { code = 22; file = 1; p = 1; q = 3 })
+  pub sheet-longest : implementation-outcome 60000 sheet ≡ verdict.Accepted
+  pub sheet-large : read-outcome shortest-tick sheet .answer
+      ≡ verdict.Refused (record { code = 6; file = 1; p = 78; q = 0 })
+  pub sheet-zero : read-outcome 0 sheet .answer ≡ verdict.Refused (record { code = 24; file = 0; p = 0; q = 0 })

@@ -33,16 +33,17 @@ use Rattle.tables.specs.declared.WidestAnswer.the-variants as made
 use Rattle.tables.specs.Outcome.{Checked, check-refused, scanned, Widened, widest-refused}
 use Rattle.guarantees_starred.specs.Sentences.{widest-raster, diagonal-raster, start-raster, ten-by-ten, hush-kept, Starred}
 use Rattle.guarantees_starred.specs.Safe.{post-counted, strict-counted, hush-counted}
-use Rattle.guarantees_starred.specs.Implementations.{post-passes, rearm-passes, early-passes, idle-passes, strict-passes, hush-neither, loose-beside, spare-count, spare-fault, spare-passes}
+use Rattle.guarantees_starred.specs.Implementations.{post-passes, rearm-passes, early-passes, idle-passes, strict-passes, hush-neither, loose-beside, spare-count, spare-fault, spare-passes, sheet-count, sheet-fewer, sheet-passes, sheet-beside, sheet-longest, sheet-large, sheet-zero}
 use Rattle.guarantees_starred.specs.Posts.{Known, hush-keep, post-known, rearm-known, early-known, strict-known, hush-known, idle-known}
 use Rattle.guarantees_starred.specs.Runs.{Pair, left-of, right-of, post-post-equal, early-post-equal, idle-post-equal, post-idle-equal, post-hush-equal, rearm-post-equal, hush-post-equal, strict-post-equal, post-strict-equal, strict-post-run, post-strict-run, post-post-run, early-post-run, idle-post-run, post-idle-run, post-hush-run, rearm-post-run}
 use Rattle.guarantees_starred.specs.Tables.{post-pairs, post-widest, post-count, post-file, file-size, header-size, strict-file-size, strict-file-wide, pairs-of, rearm-pairs, strict-post-pairs, post-strict-pairs, diagonal-judged, start-fault, start-judged, diagonal-count, diagonal-fits, start-fits}
 use Rattle.guarantees_starred.specs.Outcomes.{compares, of-texts, search-unsafe, check-unsafe, widest-unsafe, searched, widened, checked}
+use Rattle.limits.specs.Limits.{shortest-tick}
 
 -- Post against Post: the widest table and the two given ones
 post-post-made : (keep table : List ℕ) → 2 ≤ length keep → 29 ≤ length table
-    → (widest-outcome post post keep table .answer ≡ made.Made 29 true)
-    × (widest-outcome post post keep table .table ≡ ten-by-ten widest-raster ++ drop 29 table)
+    → (widest-outcome shortest-tick post post keep table .answer ≡ made.Made 29 true)
+    × (widest-outcome shortest-tick post post keep table .table ≡ ten-by-ten widest-raster ++ drop 29 table)
 post-post-made keep table h k =
     let o = widened post-known post-known post-post-equal refl post-pairs
     (of-texts post-known post-known post-post-equal (λ l r p. widest (left-of p) (right-of p) ≡ post-pairs) post-widest)
@@ -57,7 +58,8 @@ post-post-checked : (raster : List ℕ) (x : Found) → fits 10 10 (ten-by-ten r
     ≡ true
     → ((p : Pair post post post-record post-record) → pairs-judged (left-of p) (right-of p) (set-at 10 raster) ≡ x)
     → (keep : List ℕ) → 2 ≤ length keep
-    → check-outcome post post keep (ten-by-ten raster) .answer ≡ scanned 10 (ones (denoted 10 10 raster)) x
+    → check-outcome shortest-tick post post keep (ten-by-ten raster) .answer
+    ≡ scanned 10 (ones (denoted 10 10 raster)) x
 post-post-checked raster x form set judged keep h =
     ap (λ (o : Checked). o .answer)
     (checked post-known post-known post-post-equal refl (ten-by-ten raster) raster x form
@@ -68,11 +70,12 @@ made-as :
     {s u : List ℕ} {l r : Text} {n m : ℕ} {K J : List Bool} (x : Known s l n K) (y : Known u r m J)
     (e : unmatched s l u r ≡ Equal) (a : WidestAnswer) → at K 0 ≡ true
     → ((p : Pair s u l r) → pairs-of (widest (left-of p) (right-of p)) ≡ a) → (keep table : List ℕ)
-    → bytes-for n ≤ length keep → table-bytes m n ≤ length table → widest-outcome s u keep table .answer ≡ a
+    → bytes-for n ≤ length keep → table-bytes m n ≤ length table → widest-outcome shortest-tick s u keep table .answer
+    ≡ a
 made-as x y e a safe is keep table h k =
     let c = compares x y e in
     ap (λ (o : Widened). o .answer)
-    (widened x y e safe (widest (left-system c) (right-system c)) refl keep table h k)
+    (widened x y e safe (widest (left-system shortest-tick c) (right-system shortest-tick c)) refl keep table h k)
     ∙ of-texts x y e (λ l r p. pairs-of (widest (left-of p) (right-of p)) ≡ a) is
 
 -- Hush's safe states as bytes
@@ -80,7 +83,7 @@ hush-bytes : (keep : List ℕ) → packed 10 hush-keep keep ≡ hush-kept keep
 unfolding packed written tab-from byte-of
 hush-bytes keep = refl
 
-post-count-read : read-outcome post .states ≡ 10
+post-count-read : read-outcome shortest-tick post .states ≡ 10
 post-count-read = ap (λ (o : Reading). o .states) (post-known .read) ∙ post-known .size
 
 pub starred-posts : Starred
@@ -125,4 +128,11 @@ starred-posts = record {
   spare-states = spare-count;
   spare-fault = spare-fault;
   spare-passes = spare-passes;
+  sheet-states = sheet-count;
+  sheet-fewer = sheet-fewer;
+  sheet-passes = sheet-passes;
+  sheet-beside = sheet-beside;
+  sheet-longest = sheet-longest;
+  sheet-large = sheet-large;
+  sheet-zero = sheet-zero;
 }

@@ -1,5 +1,8 @@
--- The limits of a text, a definition a row of the table in SPECIFICATION 4.3, and what follows from them.
-use Prim.Native.Nat.{ℕ, _+_, _*_, _/_}
+-- The limits of a text, a definition a row of the table in SPECIFICATION 4.3, that of the tick length, and what follows
+-- from them.
+use mathlib.Core.Bool.{Bool, false, cond}
+use Prim.Native.Nat.{ℕ, _+_, _*_, _/_, _≤_}
+use lib.Dec.{ltb, leb}
 
 abbrev pub largest-text : ℕ
 largest-text = 32768
@@ -24,6 +27,24 @@ comparison-limit = 4
 
 abbrev pub largest-constant : ℕ
 largest-constant = 1000
+
+-- the tick length in milliseconds (SPECIFICATION 4.7)
+abbrev pub shortest-tick : ℕ
+shortest-tick = 1
+
+abbrev pub longest-tick : ℕ
+longest-tick = 60000
+
+unfoldable pub tick-allowed : ℕ → Bool
+tick-allowed period = cond (ltb period shortest-tick) false (leb period longest-tick)
+
+-- the same as a fact, which the functions that read constants ask for
+abbrev pub Tick-length : ℕ → Type 0
+Tick-length period = (shortest-tick ≤ period) × (period ≤ longest-tick)
+
+-- a numeral above this one comes to more ticks than the largest constant at every tick length
+abbrev pub largest-numeral : ℕ
+largest-numeral = (largest-constant + 1) * longest-tick
 
 abbrev pub state-limit : ℕ
 state-limit = 4096

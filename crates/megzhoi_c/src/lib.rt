@@ -1,6 +1,7 @@
 // The six operations for callers in C and Rust (SPECIFICATION 15). A slice is a pointer and a length in entries. The
 // answer is four numbers: the code, 0 for success, is returned, and the file mark, p and q are written. Three more
-// functions say how long the slices are that a caller lends.
+// functions say how long the slices are that a caller lends. `period` is the tick length in milliseconds, a whole
+// machine word of which every value is answered (SPECIFICATION 4.7, 15.1).
 use limits::STATE_LIMIT;
 use reader_record::Text;
 use refusals::NO_FILE;
@@ -141,6 +142,7 @@ fn write_record(a: Verdict, t: Text, states: usize, out: &mut [usize])
 // Reads a text: p is the number of its states, and the record is written as far as `out` goes.
 #[no_mangle]
 pub extern "C" fn megzhoi_read(
+    period: usize,
     text: &[u8],
     out: &mut [usize],
     file: &mut usize,
@@ -148,11 +150,13 @@ pub extern "C" fn megzhoi_read(
     q: &mut usize,
 ) -> usize
     ensures { λ r. ⌜ four r (now (file .exit)) (now (p .exit)) (now (q .exit)) ≡
-        of-verdict (read-outcome (now (text .entry)) .answer) (read-outcome (now (text .entry)) .states) ⌝ }
-    ensures { λ _. ⌜ now (out .exit) ≡ recorded (read-outcome (now (text .entry)) .answer)
-        (read-outcome (now (text .entry)) .text) (read-outcome (now (text .entry)) .states) (now (out .entry)) ⌝ }
+        of-verdict (read-outcome period (now (text .entry)) .answer)
+        (read-outcome period (now (text .entry)) .states) ⌝ }
+    ensures { λ _. ⌜ now (out .exit) ≡ recorded (read-outcome period (now (text .entry)) .answer)
+        (read-outcome period (now (text .entry)) .text) (read-outcome period (now (text .entry)) .states)
+        (now (out .entry)) ⌝ }
 {
-    let reading = operations::read(text);
+    let reading = operations::read(period, text);
     let answer = reading.answer;
     let t = reading.text;
     write_record(answer, t, reading.states, out);
@@ -163,6 +167,7 @@ pub extern "C" fn megzhoi_read(
 // Writes the bits of the safe states into keep: p is their count, q is 1 where the start is safe.
 #[no_mangle]
 pub extern "C" fn megzhoi_safe_states(
+    period: usize,
     text: &[u8],
     keep: &mut [u8],
     file: &mut usize,
@@ -170,10 +175,10 @@ pub extern "C" fn megzhoi_safe_states(
     q: &mut usize,
 ) -> usize
     ensures { λ r. ⌜ four r (now (file .exit)) (now (p .exit)) (now (q .exit)) ≡
-        of-safe (safe-outcome (now (text .entry)) (now (keep .entry)) .answer) ⌝ }
-    ensures { λ _. ⌜ now (keep .exit) ≡ safe-outcome (now (text .entry)) (now (keep .entry)) .keep ⌝ }
+        of-safe (safe-outcome period (now (text .entry)) (now (keep .entry)) .answer) ⌝ }
+    ensures { λ _. ⌜ now (keep .exit) ≡ safe-outcome period (now (text .entry)) (now (keep .entry)) .keep ⌝ }
 {
-    let answer = operations::safe_states(text, keep);
+    let answer = operations::safe_states(period, text, keep);
     let f = safe_returned(answer);
     hand_out(f, file, p, q)
 }
@@ -181,15 +186,16 @@ pub extern "C" fn megzhoi_safe_states(
 // Says whether a text is an implementation: p is 0.
 #[no_mangle]
 pub extern "C" fn megzhoi_implementation(
+    period: usize,
     text: &[u8],
     file: &mut usize,
     p: &mut usize,
     q: &mut usize,
 ) -> usize
     ensures { λ r. ⌜ four r (now (file .exit)) (now (p .exit)) (now (q .exit)) ≡
-        of-verdict (implementation-outcome (now (text .entry))) 0 ⌝ }
+        of-verdict (implementation-outcome period (now (text .entry))) 0 ⌝ }
 {
-    let answer = operations::implementation(text);
+    let answer = operations::implementation(period, text);
     let f = verdict_returned(answer, 0);
     hand_out(f, file, p, q)
 }
@@ -197,6 +203,7 @@ pub extern "C" fn megzhoi_implementation(
 // Searches for a shortest departure: p is n. The steps are in run; back and line are scratch.
 #[no_mangle]
 pub extern "C" fn megzhoi_search(
+    period: usize,
     left: &[u8],
     right: &[u8],
     keep: &mut [u8],
@@ -208,20 +215,20 @@ pub extern "C" fn megzhoi_search(
     q: &mut usize,
 ) -> usize
     ensures { λ r. ⌜ four r (now (file .exit)) (now (p .exit)) (now (q .exit)) ≡ of-search (
-        search-outcome (now (left .entry)) (now (right .entry)) (now (keep .entry)) (length (now (back .entry)))
+        search-outcome period (now (left .entry)) (now (right .entry)) (now (keep .entry)) (length (now (back .entry)))
         (length (now (line .entry))) (now (run .entry)) .answer) ⌝ }
     ensures { λ _. ⌜ now (keep .exit) ≡
-        search-outcome (now (left .entry)) (now (right .entry)) (now (keep .entry)) (length (now (back .entry)))
+        search-outcome period (now (left .entry)) (now (right .entry)) (now (keep .entry)) (length (now (back .entry)))
         (length (now (line .entry))) (now (run .entry)) .keep ⌝ }
     ensures { λ _. ⌜ now (run .exit) ≡
-        search-outcome (now (left .entry)) (now (right .entry)) (now (keep .entry)) (length (now (back .entry)))
+        search-outcome period (now (left .entry)) (now (right .entry)) (now (keep .entry)) (length (now (back .entry)))
         (length (now (line .entry))) (now (run .entry)) .run ⌝ }
     ensures { λ _. ⌜ Scratch (
-        search-outcome (now (left .entry)) (now (right .entry)) (now (keep .entry)) (length (now (back .entry)))
+        search-outcome period (now (left .entry)) (now (right .entry)) (now (keep .entry)) (length (now (back .entry)))
         (length (now (line .entry))) (now (run .entry)) .answer)
         (now (back .entry)) (now (back .exit)) (now (line .entry)) (now (line .exit)) ⌝ }
 {
-    let answer = operations::search(left, right, keep, back, line, run);
+    let answer = operations::search(period, left, right, keep, back, line, run);
     let f = search_returned(answer);
     hand_out(f, file, p, q)
 }
@@ -229,6 +236,7 @@ pub extern "C" fn megzhoi_search(
 // Checks a given table: p is the number of pairs set.
 #[no_mangle]
 pub extern "C" fn megzhoi_check(
+    period: usize,
     left: &[u8],
     right: &[u8],
     keep: &mut [u8],
@@ -238,11 +246,12 @@ pub extern "C" fn megzhoi_check(
     q: &mut usize,
 ) -> usize
     ensures { λ r. ⌜ four r (now (file .exit)) (now (p .exit)) (now (q .exit)) ≡ of-check (
-        check-outcome (now (left .entry)) (now (right .entry)) (now (keep .entry)) (now (table .entry)) .answer) ⌝ }
+        check-outcome period (now (left .entry)) (now (right .entry)) (now (keep .entry))
+        (now (table .entry)) .answer) ⌝ }
     ensures { λ _. ⌜ now (keep .exit) ≡
-        check-outcome (now (left .entry)) (now (right .entry)) (now (keep .entry)) (now (table .entry)) .keep ⌝ }
+        check-outcome period (now (left .entry)) (now (right .entry)) (now (keep .entry)) (now (table .entry)) .keep ⌝ }
 {
-    let answer = operations::check(left, right, keep, table);
+    let answer = operations::check(period, left, right, keep, table);
     let f = check_returned(answer);
     hand_out(f, file, p, q)
 }
@@ -250,6 +259,7 @@ pub extern "C" fn megzhoi_check(
 // Makes the widest table: p is the number of its pairs, q is 1 where the start pair is one.
 #[no_mangle]
 pub extern "C" fn megzhoi_widest(
+    period: usize,
     left: &[u8],
     right: &[u8],
     keep: &mut [u8],
@@ -259,13 +269,16 @@ pub extern "C" fn megzhoi_widest(
     q: &mut usize,
 ) -> usize
     ensures { λ r. ⌜ four r (now (file .exit)) (now (p .exit)) (now (q .exit)) ≡ of-widest (
-        widest-outcome (now (left .entry)) (now (right .entry)) (now (keep .entry)) (now (table .entry)) .answer) ⌝ }
+        widest-outcome period (now (left .entry)) (now (right .entry)) (now (keep .entry))
+        (now (table .entry)) .answer) ⌝ }
     ensures { λ _. ⌜ now (keep .exit) ≡
-        widest-outcome (now (left .entry)) (now (right .entry)) (now (keep .entry)) (now (table .entry)) .keep ⌝ }
+        widest-outcome period (now (left .entry)) (now (right .entry)) (now (keep .entry))
+        (now (table .entry)) .keep ⌝ }
     ensures { λ _. ⌜ now (table .exit) ≡
-        widest-outcome (now (left .entry)) (now (right .entry)) (now (keep .entry)) (now (table .entry)) .table ⌝ }
+        widest-outcome period (now (left .entry)) (now (right .entry)) (now (keep .entry))
+        (now (table .entry)) .table ⌝ }
 {
-    let answer = operations::widest(left, right, keep, table);
+    let answer = operations::widest(period, left, right, keep, table);
     let f = widest_returned(answer);
     hand_out(f, file, p, q)
 }

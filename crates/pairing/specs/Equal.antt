@@ -20,8 +20,9 @@ use Rattle.pairing.specs.Lowest.{lowest-none, lowest-found, lowest-some}
 use Rattle.pairing.specs.Laws.{matched-none, matched-some, step-none, step-in}
 use Rattle.pairing.specs.Spelled.{alike-spelled, spelled-alike}
 
-pub read-named : (s : List ℕ) → read-text s .answer ≡ Accepted → Well-named s (read-text s .text)
-read-named s e = record { within = read-names s e; differ = read-differ s e }
+pub read-named : (period : ℕ) (s : List ℕ) → read-text period s .answer ≡ Accepted
+    → Well-named s (read-text period s .text)
+read-named period s e = record { within = read-names period s e; differ = read-differ period s e }
 
 name-within : (s : List ℕ) (t : Text) → Well-named s t → (c : ℕ) → Channel t c → Within s (name-of t c)
 name-within s t w c k = w .within .channel (c - 1) (omega (arith, k .from-one, k .declared))

@@ -36,7 +36,7 @@ use Rattle.search.specs.Outcome.{Outcome, search-systems}
 use Rattle.two_operations.specs.Outcome.{search-outcome}
 use Rattle.printed_lines.specs.Lines.{line, direction-mark, channel-line, step-line, step-lines, departure-lines}
 use Rattle.printed_lines.specs.Room.{line-limit, step-bytes}
-use Rattle.printed.specs.Prints.{zeros, entries}
+use Rattle.printed.specs.Prints.{program-tick, zeros, entries}
 use Rattle.printed.specs.Room.{megzhoi-limit}
 use Rattle.printed.specs.Fits.{zeros-length}
 
@@ -127,64 +127,71 @@ module _
 -- the lines of a departure's steps
 module _ (left right keep : List ℕ) (back line : ℕ) (before : List ℕ) where
   abbrev outcome : Outcome
-  outcome = search-outcome left right keep back line before
+  outcome = search-outcome program-tick left right keep back line before
 
-  outcome-refused : (r : Refusal) → two-judged left right ≡ some r → outcome ≡ search.refused r keep before
+  outcome-refused : (r : Refusal) → two-judged program-tick left right ≡ some r → outcome ≡ search.refused r keep before
   unfolding search-outcome
-  outcome-refused r e = judged-by-some (two-judged left right) _ _ r e
+  outcome-refused r e = judged-by-some (two-judged program-tick left right) _ _ r e
 
-  outcome-systems : (e : nothing ≡ two-judged left right)
-      → outcome ≡ search-systems (left-system (compared left right e)) (right-system (compared left right e)) keep back
+  outcome-systems : (e : nothing ≡ two-judged program-tick left right)
+      → outcome ≡ search-systems (left-system program-tick (compared program-tick left right e))
+      (right-system program-tick (compared program-tick left right e)) keep back
       line before
   unfolding search-outcome
-  outcome-systems e = judged-by-none (two-judged left right) _ _ e
+  outcome-systems e = judged-by-none (two-judged program-tick left right) _ _ e
 
   told-fits :
-      {o : Outcome} {n : ℕ} → read-outcome left .answer ≡ Accepted
-      → Told (text-of left .«channel_count») before o → o .answer ≡ answer.Found n
-      → length (step-lines left (text-of left .channels) (take n (o .run))) ≤ length before * step-bytes
+      {o : Outcome} {n : ℕ} → read-outcome program-tick left .answer ≡ Accepted
+      → Told (text-of program-tick left .«channel_count») before o → o .answer ≡ answer.Found n
+      → length (step-lines left (text-of program-tick left .channels) (take n (o .run))) ≤ length before * step-bytes
   told-fits a refused e = let z : _≡_ {A = ℕ} 0 1 = cc in absurd (omega arith)
   told-fits {n = n} a (found steps l few) e =
       let same : length steps ≡ n = cc in
       rw (← same, take-at steps (drop (length steps) before) (length steps) refl)
       (omega (
         arith,
-        steps-fit left (text-of left .channels) (text-of left .«channel_count»)
-            (λ c i. named left a .within .channel c i .few) l,
+        steps-fit left (text-of program-tick left .channels) (text-of program-tick left .«channel_count»)
+            (λ c i. named program-tick left a .within .channel c i .few) l,
       ))
 
-  outcome-told : (e : nothing ≡ two-judged left right) → Told (text-of left .«channel_count») before outcome
+  outcome-told : (e : nothing ≡ two-judged program-tick left right)
+      → Told (text-of program-tick left .«channel_count») before outcome
   unfolding signature
   outcome-told e =
       rw (outcome-systems e)
-      (systems-told (left-system (compared left right e)) (right-system (compared left right e)) keep back line before)
+      (systems-told (left-system program-tick (compared program-tick left right e))
+      (right-system program-tick (compared program-tick left right e)) keep back line before)
 
   pub departure-fits :
       {n : ℕ} → outcome .answer ≡ answer.Found n
-      → length (step-lines left (text-of left .channels) (take n (outcome .run))) ≤ length before * step-bytes
-  departure-fits {n} f = go (two-judged left right) refl
+      → length (step-lines left (text-of program-tick left .channels) (take n (outcome .run))) ≤ length before
+      * step-bytes
+  departure-fits {n} f = go (two-judged program-tick left right) refl
     where
-      go : (o : Option Refusal) → o ≡ two-judged left right
-          → length (step-lines left (text-of left .channels) (take n (outcome .run))) ≤ length before * step-bytes
+      go : (o : Option Refusal) → o ≡ two-judged program-tick left right
+          → length (step-lines left (text-of program-tick left .channels) (take n (outcome .run))) ≤ length before
+          * step-bytes
       go (some r) e =
           let q : answer.Refused r ≡ answer.Found n = sym (ap (λ (o : Outcome). o .answer) (outcome-refused r (sym
           e))) ∙ f in
           let z : _≡_ {A = ℕ} 0 1 = cc in absurd (omega arith)
-      go nothing e = told-fits (judged-none left right e .left-read) (outcome-told e) f
+      go nothing e = told-fits (judged-none program-tick left right e .left-read) (outcome-told e) f
 
 -- the lines of a departure have room
 pub departure-short :
     {a : SearchAnswer} {k r keep before : List ℕ} {back queue n : ℕ} (left right : List ℕ)
-    → _≡_ {A = Outcome} (record { answer = a; keep = k; run = r }) (search-outcome left right keep back queue before)
+    → _≡_ {A = Outcome} (record { answer = a; keep = k; run = r })
+    (search-outcome program-tick left right keep back queue before)
     → keep ≡ zeros keep-limit → back ≡ entries → queue ≡ entries → before ≡ zeros entries → a ≡ answer.Found n
     → length (line (ascii "NO") (n ∷ [])) ≤ line-limit
-    → length (departure-lines left (text-of left .channels) n r) ≤ megzhoi-limit
+    → length (departure-lines left (text-of program-tick left .channels) n r) ≤ megzhoi-limit
 unfolding departure-lines
 departure-short {r = r} {n = n} left right done e f g h is head =
     let o = rw (e, f, g, h) at done in
-    let steps : length (step-lines left (text-of left .channels) (take n r)) ≤ length (zeros entries) * step-bytes =
+    let steps : length (step-lines left (text-of program-tick left .channels) (take n r)) ≤ length
+    (zeros entries) * step-bytes =
     rw (ap (λ (x : Outcome). x .run) o)
     (departure-fits left right (zeros keep-limit) entries entries (zeros entries)
     (sym (ap (λ (x : Outcome). x .answer) o) ∙ is)) in
-    let both = length-append (line (ascii "NO") (n ∷ [])) (step-lines left (text-of left .channels) (take n r)) in
+    let both = length-append (line (ascii "NO") (n ∷ [])) (step-lines left (text-of program-tick left .channels) (take n r)) in
     omega (arith, both, rw (zeros-length entries) at steps)

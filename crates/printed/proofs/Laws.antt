@@ -21,31 +21,34 @@ use Rattle.tables.specs.declared.WidestAnswer.the-variants as made
 use Rattle.tables.specs.Outcome.{Checked, Widened}
 use Rattle.two_operations.specs.Outcome.{search-outcome, check-outcome, widest-outcome}
 use Rattle.printed_lines.specs.Lines.{refusal-line, yes-line, passed-line, accepted-line, departure-lines}
-use Rattle.printed.specs.Prints.{zeros, entries, counted-bytes, widest-line, search-lines, megzhoi-prints, check-line, recheck-prints, verdict-line, implementation-prints}
+use Rattle.printed.specs.Prints.{program-tick, zeros, entries, counted-bytes, widest-line, search-lines, megzhoi-prints, check-line, recheck-prints, verdict-line, implementation-prints}
 
 module _ (left right : List ℕ) where
   -- the check
   pub recheck-line :
       {a : CheckAnswer} {k keep : List ℕ} (table : List ℕ)
-      → _≡_ {A = Checked} (record { answer = a; keep = k }) (check-outcome left right keep table)
+      → _≡_ {A = Checked} (record { answer = a; keep = k }) (check-outcome program-tick left right keep table)
       → keep ≡ zeros keep-limit → check-line a ≡ recheck-prints left right table
   unfolding recheck-prints
   recheck-line table done e =
       ap (λ (o : Checked). check-line (o .answer)) done
-      ∙ ap (λ (l : List ℕ). check-line (check-outcome left right l table .answer)) e
+      ∙ ap (λ (l : List ℕ). check-line (check-outcome program-tick left right l table .answer)) e
 
   -- the widest table that is counted
   pub counted-line :
       {a : WidestAnswer} {k t keep table : List ℕ}
-      → _≡_ {A = Widened} (record { answer = a; keep = k; table = t }) (widest-outcome left right keep table)
+      → _≡_ {A = Widened} (record { answer = a; keep = k; table = t })
+      (widest-outcome program-tick left right keep table)
       → keep ≡ zeros keep-limit → table ≡ zeros counted-bytes
-      → widest-line a ≡ widest-line (widest-outcome left right (zeros keep-limit) (zeros counted-bytes) .answer)
+      → widest-line a ≡ widest-line (widest-outcome program-tick left right (zeros keep-limit)
+      (zeros counted-bytes) .answer)
   counted-line done e f = rw (e, f) at (ap (λ (o : Widened). widest-line (o .answer)) done)
 
   -- the search
   pub megzhoi-lines :
       {a : SearchAnswer} {k r keep run : List ℕ} {back line : ℕ}
-      → _≡_ {A = Outcome} (record { answer = a; keep = k; run = r }) (search-outcome left right keep back line run)
+      → _≡_ {A = Outcome} (record { answer = a; keep = k; run = r })
+      (search-outcome program-tick left right keep back line run)
       → keep ≡ zeros keep-limit → back ≡ entries → line ≡ entries → run ≡ zeros entries
       → search-lines left right a r ≡ megzhoi-prints left right
   unfolding megzhoi-prints
@@ -54,14 +57,14 @@ module _ (left right : List ℕ) where
 
   pub no-departure :
       {a : SearchAnswer} {n : ℕ} (r : List ℕ) → a ≡ search.Found n → n ≡ 0
-      → widest-line (widest-outcome left right (zeros keep-limit) (zeros counted-bytes) .answer)
+      → widest-line (widest-outcome program-tick left right (zeros keep-limit) (zeros counted-bytes) .answer)
       ≡ search-lines left right a r
   unfolding search-lines
   no-departure {n = n} r e z = rw (e, eq-eqb n 0 z)
 
   pub a-departure :
       {a : SearchAnswer} {n : ℕ} (r : List ℕ) → a ≡ search.Found n → (n ≡ 0 → ⊥)
-      → departure-lines left (read-outcome left .text .channels) n r ≡ search-lines left right a r
+      → departure-lines left (read-outcome program-tick left .text .channels) n r ≡ search-lines left right a r
   unfolding search-lines
   a-departure {n = n} r e z = rw (e, ne-eqb n 0 z)
 
@@ -88,7 +91,7 @@ unfolding widest-line
 widest-refused e = rw e
 
 -- the implementation check
-pub implementation-line : (left : List ℕ) {v : Verdict} → v ≡ implementation-outcome left
+pub implementation-line : (left : List ℕ) {v : Verdict} → v ≡ implementation-outcome program-tick left
     → verdict-line v ≡ implementation-prints left
 unfolding implementation-prints
 implementation-line left e = ap verdict-line e

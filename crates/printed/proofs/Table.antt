@@ -32,7 +32,7 @@ use Rattle.two_operations.specs.Outcome.{widest-outcome}
 use Rattle.demands.specs.Files.{file-length}
 use Rattle.printed_lines.specs.Laid.{Laid, laid}
 use Rattle.printed_lines.specs.Lines.{refusal-line}
-use Rattle.printed.specs.Prints.{zeros, table-printed, widest-prints}
+use Rattle.printed.specs.Prints.{program-tick, zeros, table-printed, widest-prints}
 
 -- the outcomes for two slices t and u of one length: one refusal, which leaves each as it came, or one file of so many
 -- bytes in front of what each held
@@ -71,37 +71,46 @@ systems-alike L R keep t u e =
 
 module _ (left right : List ℕ) where
   abbrev file-bytes : ℕ
-  file-bytes = table-bytes (read-outcome right .states) (read-outcome left .states)
+  file-bytes = table-bytes (read-outcome program-tick right .states) (read-outcome program-tick left .states)
 
-  outcome-refused : (keep t : List ℕ) (r : Refusal) → two-judged left right ≡ some r
-      → widest-outcome left right keep t ≡ widest-refused r keep t
+  outcome-refused : (keep t : List ℕ) (r : Refusal) → two-judged program-tick left right ≡ some r
+      → widest-outcome program-tick left right keep t ≡ widest-refused r keep t
   unfolding widest-outcome
-  outcome-refused keep t r e = judged-by-some (two-judged left right) _ _ r e
+  outcome-refused keep t r e = judged-by-some (two-judged program-tick left right) _ _ r e
 
-  outcome-systems : (keep t : List ℕ) (e : none ≡ two-judged left right)
-      → widest-outcome left right keep t
-      ≡ widest-systems (left-system (compared left right e)) (right-system (compared left right e)) keep t
+  outcome-systems : (keep t : List ℕ) (e : none ≡ two-judged program-tick left right)
+      → widest-outcome program-tick left right keep t
+      ≡ widest-systems (left-system program-tick (compared program-tick left right e))
+      (right-system program-tick (compared program-tick left right e)) keep t
   unfolding widest-outcome
-  outcome-systems keep t e = judged-by-none (two-judged left right) _ _ e
+  outcome-systems keep t e = judged-by-none (two-judged program-tick left right) _ _ e
 
-  file-size : (e : none ≡ two-judged left right)
-      → file-bytes ≡ table-bytes (right-system (compared left right e) .size) (left-system (compared left right e)
+  file-size : (e : none ≡ two-judged program-tick left right)
+      → file-bytes ≡ table-bytes (right-system program-tick (compared program-tick left right e) .size)
+      (left-system program-tick (compared program-tick left right e)
       .size)
   unfolding system renumbered
   file-size e =
-      let j = judged-none left right e in
-      rw (read-accepted right (j .right-read) .states, read-accepted left (j .left-read) .states)
+      let j = judged-none program-tick left right e in
+      rw (
+        read-accepted program-tick right (j .right-read) .states,
+        read-accepted program-tick left
+            (j .left-read) .states,
+      )
 
   outcomes-alike : (keep t u : List ℕ) → length u ≡ length t
-      → Alike t u file-bytes (widest-outcome left right keep t) (widest-outcome left right keep u)
-  outcomes-alike keep t u l = go (two-judged left right) refl
+      → Alike t u file-bytes (widest-outcome program-tick left right keep t)
+      (widest-outcome program-tick left right keep u)
+  outcomes-alike keep t u l = go (two-judged program-tick left right) refl
     where
-      go : (o : Option Refusal) → o ≡ two-judged left right
-          → Alike t u file-bytes (widest-outcome left right keep t) (widest-outcome left right keep u)
+      go : (o : Option Refusal) → o ≡ two-judged program-tick left right
+          → Alike t u file-bytes (widest-outcome program-tick left right keep t)
+          (widest-outcome program-tick left right keep u)
       go (some r) e = rw (outcome-refused keep t r (sym e), outcome-refused keep u r (sym e)) refused
       go none e =
           rw (outcome-systems keep t e, outcome-systems keep u e, file-size e)
-          (systems-alike (left-system (compared left right e)) (right-system (compared left right e)) keep t u l)
+          (systems-alike (left-system program-tick (compared program-tick left right e))
+          (right-system program-tick (compared program-tick left right e)) keep t u l)
 
 -- a file at the front of a slice is laid over it
 file-laid : (t u file : List ℕ) (bytes : ℕ) → length file ≡ bytes → bytes ≤ length t
@@ -138,10 +147,11 @@ alike-refused (made file l m) e = let z : _≡_ {A = ℕ} 0 1 = cc in absurd (om
 -- what the function leaves in the slice and returns
 module _
     (left right : List ℕ) {a : WidestAnswer} {k after keep : List ℕ} (out : List ℕ)
-    (done : _≡_ {A = Widened} (record { answer = a; keep = k; table = after }) (widest-outcome left right keep out))
+    (done : _≡_ {A = Widened} (record { answer = a; keep = k; table = after })
+    (widest-outcome program-tick left right keep out))
     (blank : keep ≡ zeros keep-limit) where
   alike : Alike out (zeros (length out)) (file-bytes left right) (record { answer = a; keep = k; table = after })
-      (widest-outcome left right (zeros keep-limit) (zeros (length out)))
+      (widest-outcome program-tick left right (zeros keep-limit) (zeros (length out)))
   unfolding zeros
   alike =
       rw (done, blank)

@@ -18,7 +18,7 @@ use Rattle.clocks.specs.Judgement.{judgement-few}
 use Rattle.clocks_read.specs.Reading.{refused, judged-reading, parsed-reading, read-outcome}
 use Rattle.tables_header.specs.Header.{header, header-bytes, table-bytes, table-limit}
 use Rattle.tables_header.specs.Decimal.{decimal-within}
-use Rattle.printed.specs.Prints.{zeros}
+use Rattle.printed.specs.Prints.{program-tick, zeros}
 
 -- a slice of zeros is as long as it says
 pub zeros-length : (n : ℕ) → length (zeros n) ≡ n
@@ -38,9 +38,9 @@ few-parsed verdict.Accepted t = few-judged t (judgement t) refl
 few-parsed (verdict.Refused f) t = omega arith
 
 -- reading gives no more states than a text may have
-pub few-read : (s : List ℕ) → read-outcome s .states ≤ state-limit
+pub few-read : (s : List ℕ) → read-outcome program-tick s .states ≤ state-limit
 unfolding read-outcome
-few-read s = few-parsed (read-text s .answer) (read-text s .text)
+few-read s = few-parsed (read-text program-tick s .answer) (read-text program-tick s .text)
 
 -- the header of two state counts, and the table
 pub header-fits : (w h : ℕ) → w ≤ state-limit → h ≤ state-limit → header-bytes w h ≤ 13
@@ -57,5 +57,6 @@ table-fits w h a b =
 
 -- the table of two texts
 pub table-room : (left right : List ℕ)
-    → table-bytes (read-outcome right .states) (read-outcome left .states) ≤ table-limit
-table-room left right = table-fits (read-outcome right .states) (read-outcome left .states) (few-read right) (few-read left)
+    → table-bytes (read-outcome program-tick right .states) (read-outcome program-tick left .states) ≤ table-limit
+table-room left right = table-fits (read-outcome program-tick right .states) (read-outcome program-tick left .states)
+    (few-read right) (few-read left)

@@ -19,6 +19,10 @@ use Rattle.tables.specs.declared.WidestAnswer.the-variants as made
 use Rattle.two_operations.specs.Outcome.{search-outcome, check-outcome, widest-outcome}
 use Rattle.printed_lines.specs.Lines.{refusal-line, yes-line, passed-line, accepted-line, departure-lines}
 
+-- the tick length of the programs (SPECIFICATION 14.1, 14.5, 14.7)
+abbrev pub program-tick : ℕ
+program-tick = 1
+
 -- a slice as a program lends it to an operation
 unfoldable pub zeros : ℕ → List ℕ
 zeros n = replicate n 0
@@ -38,14 +42,15 @@ widest-line (made.Refused f) = refusal-line f
 -- what the search finds: nothing is a `YES`, n steps are a `NO`, spelled as the left spells its channels
 unfoldable pub search-lines : List ℕ → List ℕ → SearchAnswer → List ℕ → List ℕ
 search-lines left right (search.Found n) run =
-    cond (eqb n 0) (widest-line (widest-outcome left right (zeros keep-limit) (zeros counted-bytes) .answer))
-    (departure-lines left (read-outcome left .text .channels) n run)
+    cond (eqb n 0) (widest-line (widest-outcome program-tick left right (zeros keep-limit)
+    (zeros counted-bytes) .answer))
+    (departure-lines left (read-outcome program-tick left .text .channels) n run)
 search-lines left right (search.Refused f) run = refusal-line f
 
 -- program megzhoi
 unfoldable pub megzhoi-prints : List ℕ → List ℕ → List ℕ
 megzhoi-prints left right =
-    let o = search-outcome left right (zeros keep-limit) entries entries (zeros entries) in
+    let o = search-outcome program-tick left right (zeros keep-limit) entries entries (zeros entries) in
     search-lines left right (o .answer) (o .run)
 
 -- the table as a file of so many bytes, or the refusal
@@ -56,8 +61,9 @@ table-printed bytes (made.Refused f) table = refusal-line f
 -- program widest, with a table of `room` bytes: the whole file, which is as long as its header says
 unfoldable pub widest-prints : ℕ → List ℕ → List ℕ → List ℕ
 widest-prints room left right =
-    let o = widest-outcome left right (zeros keep-limit) (zeros room) in
-    table-printed (table-bytes (read-outcome right .states) (read-outcome left .states)) (o .answer) (o .table)
+    let o = widest-outcome program-tick left right (zeros keep-limit) (zeros room) in
+    table-printed (table-bytes (read-outcome program-tick right .states) (read-outcome program-tick left .states))
+    (o .answer) (o .table)
 
 -- `ACCEPTED` with the pairs of the table, or the refusal
 unfoldable pub check-line : CheckAnswer → List ℕ
@@ -66,7 +72,7 @@ check-line (check.Refused f) = refusal-line f
 
 -- program recheck
 unfoldable pub recheck-prints : List ℕ → List ℕ → List ℕ → List ℕ
-recheck-prints left right table = check-line (check-outcome left right (zeros keep-limit) table .answer)
+recheck-prints left right table = check-line (check-outcome program-tick left right (zeros keep-limit) table .answer)
 
 -- `YES`, or the refusal
 unfoldable pub verdict-line : Verdict → List ℕ
@@ -75,4 +81,4 @@ verdict-line (verdict.Refused f) = refusal-line f
 
 -- program implementation
 unfoldable pub implementation-prints : List ℕ → List ℕ
-implementation-prints left = verdict-line (implementation-outcome left)
+implementation-prints left = verdict-line (implementation-outcome program-tick left)

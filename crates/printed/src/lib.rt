@@ -21,8 +21,11 @@ ghost use Rattle.printed_lines.specs.Put.{Puts};
 ghost use Rattle.printed_lines.specs.Lines.{line, departure-lines};
 ghost use Rattle.printed_lines.specs.Room.{line-limit};
 ghost use Rattle.printed.specs.Room.{megzhoi-limit};
-ghost use Rattle.printed.specs.Prints.{zeros, entries, counted-bytes, widest-line};
+ghost use Rattle.printed.specs.Prints.{program-tick, zeros, entries, counted-bytes, widest-line};
 ghost use Rattle.printed.specs.Prints.{megzhoi-prints, widest-prints, recheck-prints, implementation-prints};
+
+// The tick length of the programs (SPECIFICATION 14.1).
+const PROGRAM_TICK: usize = 1;
 
 // The entries of back, of line and of run, and the bytes of the table that is counted.
 const ENTRIES: usize = 16384;
@@ -55,24 +58,25 @@ fn no_table() -> [u8; COUNTED_BYTES]
 
 // How many bytes the table of two texts takes.
 fn table_bytes(left: &[u8], right: &[u8]) -> usize
-    ensures { λ r. ⌜ r ≡ table-bytes (read-outcome (now (right .entry)) .states)
-        (read-outcome (now (left .entry)) .states) ⌝ }
+    ensures { λ r. ⌜ r ≡ table-bytes (read-outcome program-tick (now (right .entry)) .states)
+        (read-outcome program-tick (now (left .entry)) .states) ⌝ }
 {
-    let l = operations::read(left);
-    let r = operations::read(right);
+    let l = operations::read(PROGRAM_TICK, left);
+    let r = operations::read(PROGRAM_TICK, right);
     tables_header::table_length(r.states, l.states)
 }
 
 // No departure: YES and the number of the widest table's pairs, or the refusal.
 fn put_yes(left: &[u8], right: &[u8], out: &mut [u8]) -> usize
-    ensures { λ r. ⌜ Puts (now (out .entry)) 0 (widest-line (widest-outcome (now (left .entry)) (now (right .entry))
+    ensures { λ r. ⌜ Puts (now (out .entry)) 0
+        (widest-line (widest-outcome program-tick (now (left .entry)) (now (right .entry))
         (zeros keep-limit) (zeros counted-bytes) .answer)) (now (out .exit)) r ⌝ }
-    ensures { λ _. ⌜ length (widest-line (widest-outcome (now (left .entry)) (now (right .entry))
+    ensures { λ _. ⌜ length (widest-line (widest-outcome program-tick (now (left .entry)) (now (right .entry))
         (zeros keep-limit) (zeros counted-bytes) .answer)) ≤ line-limit ⌝ }
 {
     let mut keep = no_keep();
     let mut table = no_table();
-    let answer = operations::widest(left, right, &mut keep, &mut table);
+    let answer = operations::widest(PROGRAM_TICK, left, right, &mut keep, &mut table);
     match answer {
         WidestAnswer::Made(count, _) => printed_lines::put_yes(out, 0, count),
         WidestAnswer::Refused(f) => printed_lines::put_refusal(out, 0, f),
@@ -82,10 +86,10 @@ fn put_yes(left: &[u8], right: &[u8], out: &mut [u8]) -> usize
 // A departure: NO, n and the steps, as the left spells its channels.
 fn put_no(left: &[u8], n: usize, run: &[u32], out: &mut [u8]) -> usize
     ensures { λ r. ⌜ Puts (now (out .entry)) 0 (departure-lines (now (left .entry))
-        (read-outcome (now (left .entry)) .text .channels) n (now (run .entry))) (now (out .exit)) r ⌝ }
+        (read-outcome program-tick (now (left .entry)) .text .channels) n (now (run .entry))) (now (out .exit)) r ⌝ }
     ensures { λ _. ⌜ length (line (ascii "NO") (n ∷ [])) ≤ line-limit ⌝ }
 {
-    let reading = operations::read(left);
+    let reading = operations::read(PROGRAM_TICK, left);
     let t = reading.text;
     let channels = t.channels;
     printed_lines::put_departure(out, 0, left, channels, n, run)
@@ -102,7 +106,15 @@ pub fn megzhoi(left: &[u8], right: &[u8], out: &mut [u8]) -> usize
     let mut back = no_entries();
     let mut line = no_entries();
     let mut run = no_entries();
-    let answer = operations::search(left, right, &mut keep, &mut back, &mut line, &mut run);
+    let answer = operations::search(
+        PROGRAM_TICK,
+        left,
+        right,
+        &mut keep,
+        &mut back,
+        &mut line,
+        &mut run,
+    );
     match answer {
         SearchAnswer::Found(n) => {
             if n == 0 {
@@ -123,7 +135,7 @@ pub fn widest(left: &[u8], right: &[u8], out: &mut [u8]) -> usize
         (now (left .entry)) (now (right .entry))) ≤ length (now (out .entry))) ⌝ }
 {
     let mut keep = no_keep();
-    let answer = operations::widest(left, right, &mut keep, out);
+    let answer = operations::widest(PROGRAM_TICK, left, right, &mut keep, out);
     match answer {
         WidestAnswer::Made(_, _) => table_bytes(left, right),
         WidestAnswer::Refused(f) => printed_lines::put_refusal(out, 0, f),
@@ -138,7 +150,7 @@ pub fn recheck(left: &[u8], right: &[u8], table: &[u8], out: &mut [u8]) -> usize
         ≤ line-limit ⌝ }
 {
     let mut keep = no_keep();
-    let answer = operations::check(left, right, &mut keep, table);
+    let answer = operations::check(PROGRAM_TICK, left, right, &mut keep, table);
     match answer {
         CheckAnswer::Accepted(count) => printed_lines::put_accepted(out, 0, count),
         CheckAnswer::Refused(f) => printed_lines::put_refusal(out, 0, f),
@@ -151,7 +163,7 @@ pub fn implementation(left: &[u8], out: &mut [u8]) -> usize
         (laid (now (out .entry)) (implementation-prints (now (left .entry)))) ⌝ }
     ensures { λ _. ⌜ length (implementation-prints (now (left .entry))) ≤ line-limit ⌝ }
 {
-    let answer = operations::implementation(left);
+    let answer = operations::implementation(PROGRAM_TICK, left);
     match answer {
         Verdict::Accepted => printed_lines::put_passed(out, 0),
         Verdict::Refused(f) => printed_lines::put_refusal(out, 0, f),

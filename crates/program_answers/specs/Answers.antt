@@ -22,62 +22,71 @@ use Rattle.two_operations.specs.Outcome.{widest-outcome}
 use Rattle.demands.specs.Words.{Consistent}
 use Rattle.guarantees.specs.Texts.{Accepted-text, Equal-channels, states, meaning, number, right-meaning}
 use Rattle.printed_lines.specs.Lines.{refusal-line, yes-line, passed-line, departure-lines}
-use Rattle.printed.specs.Prints.{zeros, entries, counted-bytes}
+use Rattle.printed.specs.Prints.{program-tick, zeros, entries, counted-bytes}
 
 -- for two accepted texts, by what they mean over uncapped clocks
-module _ (left right : List ℕ) (a : Accepted-text left) (b : Accepted-text right) where
+module _ (left right : List ℕ) (a : Accepted-text program-tick left) (b : Accepted-text program-tick right) where
   -- every implementation of the left satisfies the right
   abbrev pub All-satisfy : Type 1
   All-satisfy =
-      (I : Implementation (signature (text-of left))) → Satisfies I (meaning left a)
-      → Satisfies I (right-meaning left right b)
+      (I : Implementation (signature (text-of program-tick left))) → Satisfies I (meaning program-tick left a)
+      → Satisfies I (right-meaning program-tick left right b)
 
   -- w shows that not every one does: some implementation of the left makes its steps, and the right does not allow them
   abbrev pub Shows : List ℕ → Type 1
   Shows w =
-      (I : Implementation (signature (text-of left))) × Satisfies I (meaning left a) × Makes I w
-      × (Allows (right-meaning left right b) w → ⊥)
+      (I : Implementation (signature (text-of program-tick left))) × Satisfies I (meaning program-tick left a)
+      × Makes I w
+      × (Allows (right-meaning program-tick left right b) w → ⊥)
 
 -- what is printed, and what it means
 pub data Answers (left right printed : List ℕ) : Type 1 where
   -- one of the codes 1 to 12
-  judged : (r : Refusal) → two-judged left right ≡ some r → printed ≡ refusal-line r → Answers left right printed
+  judged : (r : Refusal) → two-judged program-tick left right ≡ some r → printed ≡ refusal-line r
+      → Answers left right printed
   -- 15: more pairs of states than the program has room for
-  too-many : Accepted-text left → Accepted-text right → Equal-channels left right
-      → entries < states left * states right → printed ≡ refusal-line (queue-too-short (states left * states right))
+  too-many : Accepted-text program-tick left → Accepted-text program-tick right → Equal-channels program-tick left right
+      → entries < states program-tick left * states program-tick right → printed
+      ≡ refusal-line (queue-too-short (states program-tick left * states program-tick right))
       → Answers left right printed
   -- 17: the left has no implementation
-  unsafe : (a : Accepted-text left) → Accepted-text right → Equal-channels left right
-      → states left * states right ≤ entries → (Consistent (meaning left a) → ⊥)
-      → printed ≡ refusal-line (start-not-safe (number left a (meaning left a .start)))
+  unsafe : (a : Accepted-text program-tick left) → Accepted-text program-tick right
+      → Equal-channels program-tick left right
+      → states program-tick left * states program-tick right ≤ entries → (Consistent (meaning program-tick left a) → ⊥)
+      → printed ≡ refusal-line (start-not-safe (number program-tick left a (meaning program-tick left a .start)))
       → Answers left right printed
   -- YES: the left has an implementation, and every one satisfies the right; the number is that of the pairs of the
   -- widest table
-  yes : (a : Accepted-text left) (b : Accepted-text right) → Equal-channels left right
-      → states left * states right ≤ entries → Consistent (meaning left a) → All-satisfy left right a b
+  yes : (a : Accepted-text program-tick left) (b : Accepted-text program-tick right)
+      → Equal-channels program-tick left right
+      → states program-tick left * states program-tick right ≤ entries → Consistent (meaning program-tick left a)
+      → All-satisfy left right a b
       → (pairs : ℕ)
-      → widest-outcome left right (zeros keep-limit) (zeros counted-bytes) .answer ≡ Made pairs true
+      → widest-outcome program-tick left right (zeros keep-limit) (zeros counted-bytes) .answer ≡ Made pairs true
       → printed ≡ yes-line pairs
       → Answers left right printed
   -- NO: the steps printed show that not every implementation of the left satisfies the right, and nothing shorter does
-  no : (a : Accepted-text left) (b : Accepted-text right) → Equal-channels left right
-      → states left * states right ≤ entries → (w : List ℕ) → Shows left right a b w
+  no : (a : Accepted-text program-tick left) (b : Accepted-text program-tick right)
+      → Equal-channels program-tick left right
+      → states program-tick left * states program-tick right ≤ entries → (w : List ℕ) → Shows left right a b w
       → ((v : List ℕ) → Shows left right a b v → length w ≤ length v)
-      → printed ≡ departure-lines left (text-of left .channels) (length w) w
+      → printed ≡ departure-lines left (text-of program-tick left .channels) (length w) w
       → Answers left right printed
 
 -- what program implementation prints, and what it means
 pub data Implementation-answers (left printed : List ℕ) : Type 1 where
   -- one of the codes 1 to 11, as reading gives them
-  unread : (r : Refusal) → read-outcome left .answer ≡ verdict.Refused r → printed ≡ refusal-line r
+  unread : (r : Refusal) → read-outcome program-tick left .answer ≡ verdict.Refused r → printed ≡ refusal-line r
       → Implementation-answers left printed
   -- 22: the lowest state with a fault that a run leads to has output c beside the tick, its lowest one
-  both : (a : Accepted-text left) (s c : ℕ) → Says (meaning left a) (number left a) (OutputBesideTick s c)
+  both : (a : Accepted-text program-tick left) (s c : ℕ)
+      → Says (meaning program-tick left a) (number program-tick left a) (OutputBesideTick s c)
       → printed ≡ refusal-line (output-beside-tick s c) → Implementation-answers left printed
   -- 23: that state has neither
-  neither : (a : Accepted-text left) (s : ℕ) → Says (meaning left a) (number left a) (NeitherPossible s)
+  neither : (a : Accepted-text program-tick left) (s : ℕ)
+      → Says (meaning program-tick left a) (number program-tick left a) (NeitherPossible s)
       → printed ≡ refusal-line (neither-possible s) → Implementation-answers left printed
   -- YES: the text is an implementation with its reachable states, which satisfies the text
-  passed : (a : Accepted-text left) → Is-implementation (meaning left a)
-      → Own-implementation (meaning left a) (number left a) → printed ≡ passed-line
+  passed : (a : Accepted-text program-tick left) → Is-implementation (meaning program-tick left a)
+      → Own-implementation (meaning program-tick left a) (number program-tick left a) → printed ≡ passed-line
       → Implementation-answers left printed

@@ -29,50 +29,54 @@ use Rattle.guarantees.specs.Texts.{Accepted-text, Equal-channels, states, meani
 use Rattle.guarantees.specs.Guarantees.{safe-states-exist, texts-judged, search-judged, demand-1-search, demand-1-widest, demand-2-widest, demand-3}
 use Rattle.tables_header.specs.Header.{ascii}
 use Rattle.printed_lines.specs.Lines.{line, step-lines, departure-lines}
-use Rattle.printed.specs.Prints.{zeros, entries, counted-bytes, widest-line, search-lines, megzhoi-prints}
+use Rattle.printed.specs.Prints.{program-tick, zeros, entries, counted-bytes, widest-line, search-lines, megzhoi-prints}
 use Rattle.printed.specs.Fits.{zeros-length, few-read}
 use Rattle.program_answers.specs.Answers.{Answers, All-satisfy}
 use Rattle.program_answers.specs.Fits.{table-few}
 
 -- two accepted texts with equal channels
-module _ (left right : List ℕ) (a : Accepted-text left) (b : Accepted-text right) (e : Equal-channels left right) where
+module _ (left right : List ℕ) (a : Accepted-text program-tick left) (b : Accepted-text program-tick right)
+    (e : Equal-channels program-tick left right) where
   -- the search as the program calls it, with some run
   abbrev searched : List ℕ → Outcome
-  searched run = search-outcome left right (zeros keep-limit) entries entries run
+  searched run = search-outcome program-tick left right (zeros keep-limit) entries entries run
 
   abbrev Cases : List ℕ → Type 1
-  Cases run = Search-answers (meaning left a) (right-meaning left right b) (states left) (states right) (number left a)
-      (right-number left right b) (zeros keep-limit) entries entries run (searched run)
+  Cases run = Search-answers (meaning program-tick left a) (right-meaning program-tick left right b)
+      (states program-tick left) (states program-tick right) (number program-tick left a)
+      (right-number program-tick left right b) (zeros keep-limit) entries entries run (searched run)
 
   abbrev Demand : List ℕ → Type 1
-  Demand run = Search-demand (meaning left a) (right-meaning left right b) (states left) (states right) (number left a)
-      (right-number left right b) (zeros keep-limit) run (searched run)
+  Demand run = Search-demand (meaning program-tick left a) (right-meaning program-tick left right b)
+      (states program-tick left) (states program-tick right) (number program-tick left a)
+      (right-number program-tick left right b) (zeros keep-limit) run (searched run)
 
-  keep-long : bytes-for (states left) ≤ length (zeros keep-limit)
+  keep-long : bytes-for (states program-tick left) ≤ length (zeros keep-limit)
   keep-long = omega (arith, few-read left, zeros-length keep-limit)
 
   -- a search that gives a number gives it as demand 3 says
-  by-number : Consistent (meaning left a) → (run : List ℕ) (n : ℕ) → searched run .answer ≡ search-answer.Found n
+  by-number : Consistent (meaning program-tick left a) → (run : List ℕ) (n : ℕ) → searched run .answer
+      ≡ search-answer.Found n
       → Demand run
   unfolding search-refusal
-  by-number c run n f = demand-3 left right a b e c (zeros keep-limit) entries entries run
+  by-number c run n f = demand-3 program-tick left right a b e c (zeros keep-limit) entries entries run
       (no-refusal (search-refusal (searched run .answer)) (ap search-refusal f))
 
-  module _ (few : states left * states right ≤ entries) where
+  module _ (few : states program-tick left * states program-tick right ≤ entries) where
     -- a shortest departure is no longer than there are pairs
-    departure-few : Consistent (meaning left a) → (w : List ℕ)
-        → ((S : meaning left a .State → Type 0) → Largest-safe-set (meaning left a) S
-        → Shortest-departure (meaning left a) (right-meaning left right b) S w)
-        → length w ≤ states left * states right
+    departure-few : Consistent (meaning program-tick left a) → (w : List ℕ)
+        → ((S : meaning program-tick left a .State → Type 0) → Largest-safe-set (meaning program-tick left a) S
+        → Shortest-departure (meaning program-tick left a) (right-meaning program-tick left right b) S w)
+        → length w ≤ states program-tick left * states program-tick right
     departure-few c w short =
-        go (demand-1-search left right a b e (zeros keep-limit) entries entries (zeros (length w)))
+        go (demand-1-search program-tick left right a b e (zeros keep-limit) entries entries (zeros (length w)))
       where
-        go : Cases (zeros (length w)) → length w ≤ states left * states right
+        go : Cases (zeros (length w)) → length w ≤ states program-tick left * states program-tick right
         go (Search-answers.thirteen h o) = absurd (omega (arith, h, keep-long))
         go (Search-answers.fifteen k h o) = absurd (⊎-elim (λ x. omega (arith, x, few)) (λ x. omega (arith, x, few)) h)
         go (Search-answers.seventeen k i j h o r s) = absurd (h c)
         go (Search-answers.twenty-one k i j d v h least o r s) =
-            let (S, largest) = safe-states-exist left a in
+            let (S, largest) = safe-states-exist program-tick left a in
             absurd (omega (
               arith,
               h,
@@ -80,7 +84,7 @@ module _ (left right : List ℕ) (a : Accepted-text left) (b : Accepted-text rig
               least S largest .shortest w (short S largest .departure),
             ))
         go (Search-answers.found k i j d n f h) =
-            let (S, largest) = safe-states-exist left a in
+            let (S, largest) = safe-states-exist program-tick left a in
             let y = by-number c (zeros (length w)) n f in
             ⊎-elim
             (λ (m : 0 < y .n). omega (
@@ -93,42 +97,47 @@ module _ (left right : List ℕ) (a : Accepted-text left) (b : Accepted-text rig
             (less 0 (y .n))
 
     -- YES: the table is made, and the start pair is in it
-    yes-answer : Consistent (meaning left a) → All-satisfy left right a b → Answers left right
-        (widest-line (widest-outcome left right (zeros keep-limit) (zeros counted-bytes) .answer))
+    yes-answer : Consistent (meaning program-tick left a) → All-satisfy left right a b → Answers left right
+        (widest-line (widest-outcome program-tick left right (zeros keep-limit) (zeros counted-bytes) .answer))
     unfolding widest-line widest-refusal
-    yes-answer c all = go (demand-1-widest left right a b e (zeros keep-limit) (zeros counted-bytes))
+    yes-answer c all = go (demand-1-widest program-tick left right a b e (zeros keep-limit) (zeros counted-bytes))
       where
-        go : Widest-answers (meaning left a) (right-meaning left right b) (states left) (states right) (number left a)
-            (right-number left right b) (zeros keep-limit) (zeros counted-bytes)
-            (widest-outcome left right (zeros keep-limit) (zeros counted-bytes))
-            → Answers left right (widest-line (widest-outcome left right (zeros keep-limit) (zeros counted-bytes) .answer))
+        go : Widest-answers (meaning program-tick left a) (right-meaning program-tick left right b)
+            (states program-tick left) (states program-tick right) (number program-tick left a)
+            (right-number program-tick left right b) (zeros keep-limit) (zeros counted-bytes)
+            (widest-outcome program-tick left right (zeros keep-limit) (zeros counted-bytes))
+            → Answers left right (widest-line
+            (widest-outcome program-tick left right (zeros keep-limit) (zeros counted-bytes) .answer))
         go (Widest-answers.thirteen h o) = absurd (omega (arith, h, keep-long))
         go (Widest-answers.fourteen k h o) = absurd (omega (
           arith,
           h,
           zeros-length counted-bytes,
-          table-few (states right) (states left) (few-read right) (few-read left) few,
+          table-few (states program-tick right) (states program-tick left) (few-read right) (few-read left) few,
         ))
         go (Widest-answers.seventeen k t h o r s) = absurd (h c)
         go (Widest-answers.written k t d n start f) =
-            let y = demand-2-widest left right a b e c (zeros keep-limit) (zeros counted-bytes)
-            (no-refusal (widest-refusal (widest-outcome left right (zeros keep-limit) (zeros counted-bytes) .answer))
+            let y = demand-2-widest program-tick left right a b e c (zeros keep-limit) (zeros counted-bytes)
+            (no-refusal (widest-refusal (widest-outcome program-tick left right (zeros keep-limit)
+            (zeros counted-bytes) .answer))
             (ap widest-refusal f)) in
-            let is : widest-outcome left right (zeros keep-limit) (zeros counted-bytes) .answer ≡ made.Made (y .count) true
+            let is : widest-outcome program-tick left right (zeros keep-limit) (zeros counted-bytes) .answer
+            ≡ made.Made (y .count) true
             = y .answer ∙ ap (made.Made (y .count)) (T-true (y .start) (y .start-means .1 all)) in
             Answers.yes a b e few c all (y .count) is (ap widest-line is)
 
     -- NO: the steps that are written
     no-lines : (n : ℕ) (run : List ℕ) → 0 < n → length (take n run) ≡ n
         → search-lines left right (search-answer.Found n) run
-        ≡ departure-lines left (text-of left .channels) (length (take n run)) (take n run)
+        ≡ departure-lines left (text-of program-tick left .channels) (length (take n run)) (take n run)
     unfolding search-lines departure-lines
     no-lines n run m l =
         rw (ne-eqb n 0 (λ z. omega (arith, z)), l)
-        (ap (λ (w : List ℕ). line (ascii "NO") (n ∷ []) ++ step-lines left (text-of left .channels) w)
+        (ap (λ (w : List ℕ). line (ascii "NO") (n ∷ []) ++ step-lines left (text-of program-tick left .channels) w)
         (sym (take-all n (take n run) (omega (arith, l)))))
 
-    counted-answer : Consistent (meaning left a) → (n : ℕ) → searched (zeros entries) .answer ≡ search-answer.Found n
+    counted-answer : Consistent (meaning program-tick left a) → (n : ℕ) → searched (zeros entries) .answer
+        ≡ search-answer.Found n
         → Answers left right (megzhoi-prints left right)
     unfolding megzhoi-prints
     counted-answer c n f =
@@ -146,13 +155,14 @@ module _ (left right : List ℕ) (a : Accepted-text left) (b : Accepted-text rig
         (less 0 (y .n))
       where
         yes-lines : (run : List ℕ) → search-lines left right (search-answer.Found 0) run
-            ≡ widest-line (widest-outcome left right (zeros keep-limit) (zeros counted-bytes) .answer)
+            ≡ widest-line (widest-outcome program-tick left right (zeros keep-limit) (zeros counted-bytes) .answer)
         yes-lines run = unfold search-lines in refl
 
   -- the cases of demand 1, those that the program's slices leave
   accepted-answer : Answers left right (megzhoi-prints left right)
   unfolding megzhoi-prints search-lines
-  accepted-answer = go (demand-1-search left right a b e (zeros keep-limit) entries entries (zeros entries))
+  accepted-answer = go (demand-1-search program-tick left right a b e (zeros keep-limit) entries entries
+      (zeros entries))
     where
       shown : Outcome → List ℕ
       shown o = search-lines left right (o .answer) (o .run)
@@ -169,9 +179,9 @@ module _ (left right : List ℕ) (a : Accepted-text left) (b : Accepted-text rig
 -- for any two files
 pub answers : (left right : List ℕ) → Answers left right (megzhoi-prints left right)
 unfolding megzhoi-prints search-lines
-answers left right = go (two-judged left right) refl
+answers left right = go (two-judged program-tick left right) refl
   where
-    go : (o : Option Refusal) → two-judged left right ≡ o → Answers left right (megzhoi-prints left right)
+    go : (o : Option Refusal) → two-judged program-tick left right ≡ o → Answers left right (megzhoi-prints left right)
     go (some r) q = Answers.judged r q (ap (λ (o : Outcome). search-lines left right (o .answer) (o .run))
-        (search-judged left right (zeros keep-limit) entries entries (zeros entries) r q))
-    go none q = let (a, b, e) = texts-judged left right .0 (sym q) in accepted-answer left right a b e
+        (search-judged program-tick left right (zeros keep-limit) entries entries (zeros entries) r q))
+    go none q = let (a, b, e) = texts-judged program-tick left right .0 (sym q) in accepted-answer left right a b e

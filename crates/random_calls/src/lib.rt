@@ -1,5 +1,6 @@
-// Calls of the six operations with long, exact and short slices, what the enumerator says of each, and a tally of answers
-// and differences: the answer counts, and every byte and entry that is lent. Proved safe and ending, no more.
+// Calls of the six operations at a tick length, `period`, with long, exact and short slices, what the enumerator says of
+// each, and a tally of answers and differences: the answer counts, and every byte and entry that is lent. Proved safe and
+// ending, no more.
 use enumerator::moves::ACCEPTED;
 use enumerator::moves::ROW;
 use enumerator::moves::accepted;
@@ -18,12 +19,14 @@ use enumerator::packed::keep_byte;
 use enumerator::packed::table_length;
 use enumerator::packed::write_table;
 use enumerator::pairs::PAIRS;
+use enumerator::pairs::TICK_OUT_OF_RANGE;
 use enumerator::pairs::Two;
 use enumerator::pairs::count;
 use enumerator::pairs::has;
 use enumerator::pairs::mark;
 use enumerator::pairs::pair_number;
 use enumerator::pairs::pairs_of;
+use enumerator::records::same_constants;
 use enumerator::runs::departure;
 use enumerator::runs::is_departure;
 use enumerator::safe::Reading;
@@ -45,20 +48,25 @@ use tables::CheckAnswer;
 use tables::WidestAnswer;
 ghost use Prim.Native.Nat.{_≤_};
 
-// Entries of the tally: calls by code, from 0 for accepted to 23, then these.
-pub const DIFFERENCES: usize = 24;
+// Entries of the tally: calls by code, from 0 for accepted to 24, then these.
+pub const DIFFERENCES: usize = 25;
 
-pub const DEPARTURES: usize = 25;
+pub const DEPARTURES: usize = 26;
 
-pub const NO_DEPARTURE: usize = 26;
+pub const NO_DEPARTURE: usize = 27;
 
-pub const WITH_START: usize = 27;
+pub const WITH_START: usize = 28;
 
-pub const IMPLEMENTATIONS: usize = 28;
+pub const IMPLEMENTATIONS: usize = 29;
 
-pub const LEFT_OUT: usize = 29;
+pub const ROUNDED: usize = 30;
 
-pub const TALLY: usize = 30;
+pub const LEFT_OUT: usize = 31;
+
+pub const TALLY: usize = 32;
+
+// The tick length at which a text is written in ticks.
+const IN_TICKS: usize = 1;
 
 // Texts of more states are left out.
 const STATES: usize = 512;
@@ -73,7 +81,7 @@ const TABLE_BYTES: usize = 2304;
 const RUN_ENTRIES: usize = 16;
 
 // Up to this code all that reading finds in a text that is not damaged is known since it was written, but for this one.
-// From 17 on in the order of judging keep is written (SPECIFICATION 13.5).
+// From 17 on in the order of judging keep is written; 24 is the first in that order (SPECIFICATION 13.3, 13.5).
 const OTHER_MARK: usize = 8;
 
 const START_NOT_SAFE: usize = 17;
@@ -221,10 +229,10 @@ fn count_call(tally: &mut [usize], expected: Refusal, is_right: bool) {
 }
 
 // The operations, with the first part of each slice.
-fn safe_call(text: &[u8], keep: &mut [u8], bytes: usize) -> Refusal {
+fn safe_call(period: usize, text: &[u8], keep: &mut [u8], bytes: usize) -> Refusal {
     let a: usize = 0;
     let k = at_most(bytes, keep.len());
-    let answer = operations::safe_states(text, &mut keep[a..k]);
+    let answer = operations::safe_states(period, text, &mut keep[a..k]);
     match answer {
         SafeAnswer::Refused(f) => f,
         SafeAnswer::Found(n, start) => done(n, start),
@@ -232,6 +240,7 @@ fn safe_call(text: &[u8], keep: &mut [u8], bytes: usize) -> Refusal {
 }
 
 fn search_call(
+    period: usize,
     left: &[u8],
     right: &[u8],
     z: Lengths,
@@ -246,6 +255,7 @@ fn search_call(
     let e = at_most(z.line, line.len());
     let m = at_most(z.run, run.len());
     let answer = operations::search(
+        period,
         left,
         right,
         &mut keep[a..k],
@@ -259,11 +269,18 @@ fn search_call(
     }
 }
 
-fn check_call(left: &[u8], right: &[u8], z: Lengths, keep: &mut [u8], table: &[u8]) -> Refusal {
+fn check_call(
+    period: usize,
+    left: &[u8],
+    right: &[u8],
+    z: Lengths,
+    keep: &mut [u8],
+    table: &[u8],
+) -> Refusal {
     let a: usize = 0;
     let k = at_most(z.keep, keep.len());
     let b = at_most(z.table, table.len());
-    let answer = operations::check(left, right, &mut keep[a..k], &table[a..b]);
+    let answer = operations::check(period, left, right, &mut keep[a..k], &table[a..b]);
     match answer {
         CheckAnswer::Refused(f) => f,
         CheckAnswer::Accepted(n) => done(n, false),
@@ -271,6 +288,7 @@ fn check_call(left: &[u8], right: &[u8], z: Lengths, keep: &mut [u8], table: &[u
 }
 
 fn widest_call(
+    period: usize,
     left: &[u8],
     right: &[u8],
     z: Lengths,
@@ -280,7 +298,7 @@ fn widest_call(
     let a: usize = 0;
     let k = at_most(z.keep, keep.len());
     let b = at_most(z.table, table.len());
-    let answer = operations::widest(left, right, &mut keep[a..k], &mut table[a..b]);
+    let answer = operations::widest(period, left, right, &mut keep[a..k], &mut table[a..b]);
     match answer {
         WidestAnswer::Refused(f) => f,
         WidestAnswer::Made(n, start) => done(n, start),
@@ -294,12 +312,20 @@ fn write_keep(keep: &mut [u8], rows: &[u32], n: usize) {
     }
 }
 
+// Whether an answer leaves every slice as it was lent (SPECIFICATION 13.5).
+fn is_untouched(f: Refusal) -> bool {
+    if f.code == TICK_OUT_OF_RANGE {
+        return true;
+    }
+    f.code != ACCEPTED && f.code < START_NOT_SAFE
+}
+
 // Whether keep, lent with noise, is as it must be after an answer: the safe states of n states, or as it was (SPECIFICATION
 // 8.4, 12.7, 13.5).
 fn is_kept(keep: &[u8], rows: &[u32], n: usize, f: Refusal, seed: u32) -> bool {
     let mut want = [0u8; KEEP_BYTES];
     fill_bytes(&mut want, seed);
-    if f.code != ACCEPTED && f.code < START_NOT_SAFE {
+    if is_untouched(f) {
         return same_bytes(keep, &want);
     }
     write_keep(&mut want, rows, n);
@@ -324,12 +350,12 @@ fn safe_answer(r: Reading, rows: &[u32], k: usize) -> Refusal {
     done(count_safe(rows, r.states), is_safe(rows, r.start))
 }
 
-fn safe_case(text: &[u8], r: Reading, rows: &[u32], seed: u32, tally: &mut [usize]) {
+fn safe_case(period: usize, text: &[u8], r: Reading, rows: &[u32], seed: u32, tally: &mut [usize]) {
     let mut keep = [0u8; KEEP_BYTES];
     fill_bytes(&mut keep, seed);
     let k = length(seed, KEEP, bytes_for(r.states), KEEP_BYTES);
     let expected = safe_answer(r, rows, k);
-    let got = safe_call(text, &mut keep, k);
+    let got = safe_call(period, text, &mut keep, k);
     let kept = is_kept(&keep, rows, r.states, expected, seed);
     count_call(tally, expected, kept && same(expected, got));
 }
@@ -343,9 +369,9 @@ fn answer_of(answer: Verdict, n: usize) -> Refusal {
 }
 
 // Nothing is lent: the answer counts alone.
-fn implementation_case(text: &[u8], r: Reading, tally: &mut [usize]) {
+fn implementation_case(period: usize, text: &[u8], r: Reading, tally: &mut [usize]) {
     let expected = enumerator::reached::implementation(r);
-    let got = answer_of(operations::implementation(text), 0);
+    let got = answer_of(operations::implementation(period, text), 0);
     count_call(&mut *tally, expected, same(expected, got));
     add(tally, IMPLEMENTATIONS, expected.code == ACCEPTED);
 }
@@ -357,7 +383,7 @@ fn refused_if(is_refused: bool, f: Refusal) -> Refusal {
     accepted()
 }
 
-// What is refused before the pairs of states are looked at: codes 1 to 13, another slice, 17 (SPECIFICATION 13.3).
+// What is refused before the pairs of states are looked at: 24, 1 to 13, another slice, 17 (SPECIFICATION 13.3).
 fn early_refusal(c: Case, l: &[u32], z: Lengths, other: Refusal) -> Refusal {
     let w = c.two;
     let before = c.refusal;
@@ -408,6 +434,7 @@ fn queue_is_right(f: Refusal, back: &[u32], line: &[u32], seed: u32) -> bool {
 
 // Whether a search answers and leaves what it must.
 fn search_is_right(
+    period: usize,
     left: &[u8],
     right: &[u8],
     z: Lengths,
@@ -425,7 +452,16 @@ fn search_is_right(
     fill_entries(&mut back, seed);
     fill_entries(&mut line, seed);
     fill_entries(&mut run, seed);
-    let got = search_call(left, right, z, &mut keep, &mut back, &mut line, &mut run);
+    let got = search_call(
+        period,
+        left,
+        right,
+        z,
+        &mut keep,
+        &mut back,
+        &mut line,
+        &mut run,
+    );
     if !is_kept(&keep, l, states, expected, seed) {
         return false;
     }
@@ -438,7 +474,15 @@ fn search_is_right(
     same(expected, got)
 }
 
-fn search_case(left: &[u8], right: &[u8], c: Case, l: &[u32], r: &[u32], tally: &mut [usize]) {
+fn search_case(
+    period: usize,
+    left: &[u8],
+    right: &[u8],
+    c: Case,
+    l: &[u32],
+    r: &[u32],
+    tally: &mut [usize],
+) {
     let mut want = [0u32; RUN_ENTRIES];
     let w = c.two;
     let seed = c.seed;
@@ -452,7 +496,17 @@ fn search_case(left: &[u8], right: &[u8], c: Case, l: &[u32], r: &[u32], tally: 
         refused_if(is_short, Refusal::queue_too_short(pairs)),
     );
     let expected = wanted_run(f, l, r, w, z.run, seed, &mut want);
-    let is_right = search_is_right(left, right, z, l, w.left_states, &want, expected, seed);
+    let is_right = search_is_right(
+        period,
+        left,
+        right,
+        z,
+        l,
+        w.left_states,
+        &want,
+        expected,
+        seed,
+    );
     count_call(&mut *tally, expected, is_right);
     add(
         &mut *tally,
@@ -477,7 +531,15 @@ fn wanted_table(f: Refusal, w: Two, set: &[bool], seed: u32, table: &mut [u8]) -
     done(count(set, w), has(set, start))
 }
 
-fn widest_case(left: &[u8], right: &[u8], c: Case, l: &[u32], set: &[bool], tally: &mut [usize]) {
+fn widest_case(
+    period: usize,
+    left: &[u8],
+    right: &[u8],
+    c: Case,
+    l: &[u32],
+    set: &[bool],
+    tally: &mut [usize],
+) {
     let mut keep = [0u8; KEEP_BYTES];
     let mut table = [0u8; TABLE_BYTES];
     let mut want = [0u8; TABLE_BYTES];
@@ -494,7 +556,7 @@ fn widest_case(left: &[u8], right: &[u8], c: Case, l: &[u32], set: &[bool], tall
         refused_if(z.table < need, Refusal::table_too_short(need)),
     );
     let expected = wanted_table(f, w, set, seed, &mut want);
-    let got = widest_call(left, right, z, &mut keep, &mut table);
+    let got = widest_call(period, left, right, z, &mut keep, &mut table);
     let kept = is_kept(&keep, l, w.left_states, expected, seed);
     let made = same_bytes(&table, &want);
     count_call(&mut *tally, expected, kept && made && same(expected, got));
@@ -550,6 +612,7 @@ fn checked(f: Refusal, l: &[u32], r: &[u32], w: Two, set: &[bool]) -> Refusal {
 }
 
 fn check_case(
+    period: usize,
     left: &[u8],
     right: &[u8],
     c: Case,
@@ -572,20 +635,28 @@ fn check_case(
     let is_other = kind == OTHER_HEADER || z.table != table_length(w);
     let f = early_refusal(c, l, z, refused_if(is_other, Refusal::other_table()));
     let expected = checked(f, l, r, w, set);
-    let got = check_call(left, right, z, &mut keep, &table);
+    let got = check_call(period, left, right, z, &mut keep, &table);
     let kept = is_kept(&keep, l, w.left_states, expected, seed);
     count_call(tally, expected, kept && same(expected, got));
 }
 
 // The widest table, and checks of it and of tables like it.
-fn table_cases(left: &[u8], right: &[u8], c: Case, l: &[u32], r: &[u32], tally: &mut [usize]) {
+fn table_cases(
+    period: usize,
+    left: &[u8],
+    right: &[u8],
+    c: Case,
+    l: &[u32],
+    r: &[u32],
+    tally: &mut [usize],
+) {
     let mut set = [false; PAIRS];
     let w = c.two;
     enumerator::pairs::widest(l, r, w, &mut set);
-    widest_case(left, right, c, l, &set, &mut *tally);
+    widest_case(period, left, right, c, l, &set, &mut *tally);
     for kind in 0..KINDS {
         change_pairs(&mut set, w, random_texts::part(c.seed, kind), kind);
-        check_case(left, right, c, l, r, &set, kind, &mut *tally);
+        check_case(period, left, right, c, l, r, &set, kind, &mut *tally);
     }
 }
 
@@ -609,6 +680,7 @@ fn follow_case(a: Reading, b: Reading, c: Case, l: &[u32], r: &[u32], tally: &mu
 
 // The operations on two texts, of which the left has the rows l.
 fn two_cases(
+    period: usize,
     left: &[u8],
     right: &[u8],
     a: Reading,
@@ -622,14 +694,22 @@ fn two_cases(
     let refusal = enumerator::pairs::two_refusal(left, right, a, b);
     let two = enumerator::pairs::two_of(left, right, a, b);
     let c = Case { seed, refusal, two };
-    search_case(left, right, c, l, &r, &mut *tally);
+    search_case(period, left, right, c, l, &r, &mut *tally);
     follow_case(a, b, c, l, &r, &mut *tally);
-    table_cases(left, right, c, l, &r, tally);
+    table_cases(period, left, right, c, l, &r, tally);
 }
 
 // The operations that are lent slices: safe states of the left and, where there are few enough pairs of states, those on two
 // texts.
-fn lent_cases(left: &[u8], right: &[u8], a: Reading, b: Reading, seed: u32, tally: &mut [usize]) {
+fn lent_cases(
+    period: usize,
+    left: &[u8],
+    right: &[u8],
+    a: Reading,
+    b: Reading,
+    seed: u32,
+    tally: &mut [usize],
+) {
     let pairs = times(a.states, b.states);
     if STATES < a.states {
         add(tally, LEFT_OUT, true);
@@ -637,21 +717,21 @@ fn lent_cases(left: &[u8], right: &[u8], a: Reading, b: Reading, seed: u32, tall
     }
     let mut l = [0u32; ROWS];
     fill_rows(a, &mut l);
-    safe_case(left, a, &l, seed, &mut *tally);
+    safe_case(period, left, a, &l, seed, &mut *tally);
     if STATES < b.states || PAIRS < pairs {
         add(tally, LEFT_OUT, true);
         return;
     }
-    two_cases(left, right, a, b, &l, seed, tally);
+    two_cases(period, left, right, a, b, &l, seed, tally);
 }
 
 // All operations but reading, on two texts; the implementation check on each of them.
-pub fn all_cases(left: &[u8], right: &[u8], seed: u32, tally: &mut [usize]) {
-    let a = enumerator::safe::read(left);
-    let b = enumerator::safe::read(right);
-    implementation_case(left, a, &mut *tally);
-    implementation_case(right, b, &mut *tally);
-    lent_cases(left, right, a, b, seed, tally);
+pub fn all_cases(period: usize, left: &[u8], right: &[u8], seed: u32, tally: &mut [usize]) {
+    let a = enumerator::safe::read(period, left);
+    let b = enumerator::safe::read(period, right);
+    implementation_case(period, left, a, &mut *tally);
+    implementation_case(period, right, b, &mut *tally);
+    lent_cases(period, left, right, a, b, seed, tally);
 }
 
 fn has_counts(t: Text, channels: usize, clocks: usize, locations: usize, edges: usize) -> bool {
@@ -661,8 +741,12 @@ fn has_counts(t: Text, channels: usize, clocks: usize, locations: usize, edges: 
         && t.edge_count == edges
 }
 
-// Whether an answer of reading is the one that is known of a text since it was written (SPECIFICATION 4.5).
+// Whether an answer of reading is the one that is known of a text since it was written (SPECIFICATION 4.5). Of a tick length
+// out of range, which is judged before, the enumerator knows.
 fn is_known(f: Refusal, p: Pen) -> bool {
+    if f.code == TICK_OUT_OF_RANGE {
+        return true;
+    }
     if p.code == ACCEPTED {
         return f.code == ACCEPTED || OTHER_MARK <= f.code;
     }
@@ -684,19 +768,50 @@ fn is_counted(t: Text, code: usize, g: Shape, p: Pen) -> bool {
     has_counts(t, channels(g), clocks(g), locations(g), p.edges)
 }
 
-// Reading: the answer, the number of states and the counts of the record.
-pub fn read_case(text: &[u8], g: Shape, p: Pen, is_damaged: bool, tally: &mut [usize]) {
-    let r = enumerator::safe::read(text);
+// Reading: the answer, the number of states, the counts of the record, and its constants, which are those that the
+// enumerator has.
+pub fn read_case(
+    period: usize,
+    text: &[u8],
+    g: Shape,
+    p: Pen,
+    is_damaged: bool,
+    tally: &mut [usize],
+) {
+    let r = enumerator::safe::read(period, text);
     let mut expected = r.refusal;
     if expected.code == ACCEPTED {
         expected = done(r.states, false);
     }
-    let reading = operations::read(text);
+    let reading = operations::read(period, text);
     let t = reading.text;
+    let u = r.text;
     let answer = reading.answer;
     let got = answer_of(answer, reading.states);
     let counted = is_counted(t, got.code, g, p);
     let known = is_known(got, p);
     let is_right = is_damaged || counted && known;
-    count_call(tally, expected, is_right && same(expected, got));
+    let constants = got.code != ACCEPTED || same_constants(t, u);
+    count_call(
+        tally,
+        expected,
+        is_right && constants && same(expected, got),
+    );
+}
+
+// A text in milliseconds and the same text in ticks, of both of which no refusal is known, have the same constants. What
+// rests on what: the numerals of the first were made from ticks by adding, in crate random_texts, and the reader's rounding
+// makes ticks of them again; the second is read at tick length 1, where a constant is its numeral's value (SPECIFICATION
+// 4.7). So the rounding is held against arithmetic that is not the reader's, and what the enumerator says of a record, whose
+// constants come from the reader, is what it would say of the text in ticks.
+pub fn rounding_case(g: Shape, text: &[u8], p: Pen, ticks: &[u8], q: Pen, tally: &mut [usize]) {
+    if g.period == IN_TICKS || p.code != ACCEPTED || q.code != ACCEPTED {
+        return;
+    }
+    let parsed = reader::parse(g.period, text);
+    let plain = reader::parse(IN_TICKS, ticks);
+    let t = parsed.text;
+    let u = plain.text;
+    add(&mut *tally, ROUNDED, true);
+    add(tally, DIFFERENCES, !same_constants(t, u));
 }

@@ -1,6 +1,8 @@
 // Small random texts (SPECIFICATION 2 to 4), each a function of a shape: a choice depends on a seed and on what it is about,
 // so that a text can be written again with one thing changed. While a text is written, the first refusal that its change
-// brings is noted, so that the answer of reading is known without a reader. Proved safe and ending, no more.
+// brings is noted, so that the answer of reading is known without a reader. Bounds are chosen in ticks; what stands in the
+// text is a number of milliseconds that comes to them at the shape's tick length, found by adding up lengths: nothing is
+// divided by a tick length here, as reading does (SPECIFICATION 4.7). Proved safe and ending, no more.
 use limits::CHANNEL_LIMIT;
 use limits::CLOCK_LIMIT;
 use limits::COMPARISON_LIMIT;
@@ -8,10 +10,13 @@ use limits::EDGE_LIMIT;
 use limits::LARGEST_CONSTANT;
 use limits::LARGEST_NAME;
 use limits::LOCATION_LIMIT;
+use limits::LONGEST_TICK;
 
 // What a text is like: `size` rules how many items it has, `seed` what it says, `gap` how it is spaced and named, in which
-// order its channels are declared, and at which location and channel the change is. Small structs keep the proofs short.
+// order its channels are declared, and at which location and channel the change is; `period` is the tick length at which it
+// is written, in range. Small structs keep the proofs short.
 pub struct Shape {
+    pub period: usize,
     pub size: u32,
     pub seed: u32,
     pub gap: u32,
@@ -99,7 +104,9 @@ const ZERO_BOUND: usize = 27;
 
 const OTHER_SIGN: usize = 28;
 
-const CHANGES: usize = 29;
+const RESET_TO_ONE: usize = 29;
+
+const CHANGES: usize = 30;
 
 // What is chosen. To the first ones the number of an edge in its group or of a comparison is added.
 const TARGETS: usize = 8;
@@ -150,6 +157,10 @@ const CHANGE: usize = 79;
 
 const PARTS: usize = 80;
 
+const ROUNDINGS: usize = 81;
+
+const PERIODS: usize = 82;
+
 // Most texts have fewer channels of a direction, at most as many locations, and constants below this number.
 const FEW: usize = 4;
 
@@ -177,6 +188,14 @@ const WIDE_ODDS: usize = 8;
 const LARGE_ODDS: usize = 16;
 
 const SECOND_SIGN_ODDS: usize = 12;
+
+const ROUNDING_ODDS: usize = 5;
+
+const PERIOD_ODDS: usize = 16;
+
+const USUAL_ODDS: usize = 12;
+
+const OUT_OF_RANGE_ODDS: usize = 3;
 
 // The items of a list, and the signs of a comparison.
 const CHANNEL_ITEMS: usize = 0;
@@ -232,14 +251,26 @@ const MIXED_IN: usize = 65536;
 
 const LEFT_OUT: usize = 8;
 
-const TEN: usize = 10;
+// The digits of the longest numeral, what the first of them counts, and what the first of four does.
+const MOST_DIGITS: usize = 8;
 
-const HUNDRED: usize = 100;
+const LARGEST_UNIT: usize = 10000000;
 
 const THOUSAND: usize = 1000;
 
+const TEN: usize = 10;
+
+// At this tick length a numeral is a number of ticks.
+const ONE_MILLISECOND: usize = 1;
+
+const LARGEST_WORD: usize = 18446744073709551615;
+
 fn plus(a: usize, b: usize) -> usize {
     std::num::wrapping_add_usize(a, b)
+}
+
+fn minus(a: usize, b: usize) -> usize {
+    std::num::wrapping_sub_usize(a, b)
 }
 
 fn mix(x: u32) -> u32 {
@@ -470,23 +501,77 @@ fn location(buf: &mut [u8], p: Pen, g: Shape, l: usize) -> Pen {
     name(buf, p, letter, n, even_or_odd(l, b'0', b'Z'))
 }
 
-fn digit(buf: &mut [u8], p: Pen, n: usize) -> Pen {
-    put(buf, p, (n % TEN) as u8 + b'0')
+// The digit of n that counts units of a power of ten. Those before the first that is not 0 are left out, if they count more
+// than `least`.
+fn digit(buf: &mut [u8], p: Pen, n: usize, unit: usize, least: usize) -> Pen {
+    if unit == 0 {
+        return p;
+    }
+    if n < unit && least < unit {
+        return p;
+    }
+    put(buf, p, (n / unit % TEN) as u8 + b'0')
 }
 
-// A numeral of one digit or of four.
+// A numeral without leading zeros, or of four digits and more.
 fn numeral(buf: &mut [u8], p: Pen, g: Shape, n: usize) -> Pen {
+    let mut least = 1;
+    if pick(g.gap, WIDTHS, p.at, 0, WIDE_ODDS) == 0 {
+        least = THOUSAND;
+    }
+    let mut q = p;
+    let mut unit = LARGEST_UNIT;
+    for _ in 0..MOST_DIGITS {
+        q = digit(&mut *buf, q, n, unit, least);
+        unit = unit / TEN;
+    }
+    q
+}
+
+// The milliseconds of n ticks, by adding.
+fn whole(period: usize, n: usize) -> usize {
+    let mut sum: usize = 0;
+    for _ in 0..n {
+        sum = plus(sum, period);
+    }
+    sum
+}
+
+// The least value that comes to n ticks: half a tick less, as an exact half goes upward (SPECIFICATION 4.7).
+fn least_value(g: Shape, n: usize) -> usize {
+    if n == 0 {
+        return 0;
+    }
+    minus(whole(g.period, n), g.period / 2)
+}
+
+// The largest one: more by less than half a tick.
+fn largest_value(g: Shape, n: usize) -> usize {
+    plus(whole(g.period, n), minus(g.period, 1) / 2)
+}
+
+// A value that comes to n ticks: often one of these two, or the middle.
+fn milliseconds(g: Shape, at: usize, n: usize) -> usize {
+    let low = least_value(g, n);
+    let high = largest_value(g, n);
+    match pick(g.gap, ROUNDINGS, at, 0, ROUNDING_ODDS) {
+        0 => low,
+        1 => high,
+        2 => whole(g.period, n),
+        _ => plus(
+            low,
+            pick(g.gap, ROUNDINGS, at, 1, plus(minus(high, low), 1)),
+        ),
+    }
+}
+
+// A constant of n ticks, in milliseconds. Whether it is too large is a matter of its ticks.
+fn constant(buf: &mut [u8], p: Pen, g: Shape, n: usize) -> Pen {
     let mut q = p;
     if LARGEST_CONSTANT < n {
         q = noted(p, CONSTANT_TOO_LARGE);
     }
-    if n < TEN && pick(g.gap, WIDTHS, p.at, 0, WIDE_ODDS) != 0 {
-        return digit(buf, q, n);
-    }
-    q = digit(&mut *buf, q, n / THOUSAND);
-    q = digit(&mut *buf, q, n / HUNDRED);
-    q = digit(&mut *buf, q, n / TEN);
-    digit(buf, q, n)
+    numeral(buf, q, g, milliseconds(g, p.at, n))
 }
 
 fn either(buf: &mut [u8], p: Pen, g: Shape, is_first: bool, v: &[u8], w: &[u8]) -> Pen {
@@ -732,7 +817,7 @@ fn noted_sign(p: Pen, c: usize, sign: usize) -> Pen {
     p
 }
 
-// Notes a bound that an invariant may not have, at the numeral.
+// Notes a bound that an invariant may not have, in ticks, at the numeral.
 fn noted_bound(p: Pen, c: usize, sign: usize, n: usize) -> Pen {
     if c == INVARIANT && sign == LESS && n == 0 {
         return noted(p, MISFIT);
@@ -751,7 +836,7 @@ fn comparison(buf: &mut [u8], p: Pen, g: Shape, l: usize, c: usize, j: usize, i:
     let n = written_bound(g, l, c, j, i);
     let mut q = clock(&mut *buf, p, g, choice(g, plus(CLOCKS, i), l, c, clocks(g)));
     q = spaced_sign(&mut *buf, q, g, c, s);
-    numeral(buf, noted_bound(q, c, s, n), g, n)
+    constant(buf, noted_bound(q, c, s, n), g, n)
 }
 
 fn comparisons(
@@ -836,7 +921,8 @@ fn is_reset(set: usize, k: usize) -> bool {
     }
 }
 
-// The reset of a clock that is in the set; the list of resets begins at `from`.
+// The reset of a clock that is in the set; the list of resets begins at `from`. Another value than 0 is refused as it is
+// written: 1 millisecond is, though it comes to no tick at most lengths (SPECIFICATION 4.7).
 fn reset(buf: &mut [u8], p: Pen, g: Shape, set: usize, k: usize, from: usize) -> Pen {
     if clocks(g) <= k || !is_reset(set, k) {
         return p;
@@ -844,6 +930,9 @@ fn reset(buf: &mut [u8], p: Pen, g: Shape, set: usize, k: usize, from: usize) ->
     let mut q = either(&mut *buf, p, g, p.at == from, b"assign ", b"~,~");
     q = clock(&mut *buf, q, g, k);
     q = words(&mut *buf, q, g, b"~=~");
+    if g.change == RESET_TO_ONE {
+        return numeral(buf, noted(q, MISFIT), g, 1);
+    }
     numeral(buf, q, g, 0)
 }
 
@@ -1001,8 +1090,47 @@ pub fn damage(buf: &mut [u8], n: usize, seed: u32) {
     }
 }
 
-// A shape with one change in `often` of CHANGE_ODDS times.
-pub fn shape_of(size: u32, seed: u32, gap: u32, often: usize) -> Shape {
+// Tick lengths near the ends of their range, odd and even ones, and often the one at which nothing is rounded.
+fn usual_length(k: usize) -> usize {
+    match k {
+        0 => 2,
+        1 => 3,
+        2 => 7,
+        3 => 10,
+        4 => 999,
+        5 => THOUSAND,
+        6 => LONGEST_TICK,
+        _ => ONE_MILLISECOND,
+    }
+}
+
+// A tick length that is refused.
+pub fn length_out_of_range(seed: u32) -> usize {
+    match pick(seed, PERIODS, 1, 0, OUT_OF_RANGE_ODDS) {
+        0 => 0,
+        1 => LONGEST_TICK + 1,
+        _ => LARGEST_WORD,
+    }
+}
+
+// A tick length for a call (SPECIFICATION 4.7): some are out of range, half are usual ones, the others any in range.
+pub fn tick_length(seed: u32) -> usize {
+    match pick(seed, PERIODS, 0, 0, PERIOD_ODDS) {
+        0 => length_out_of_range(seed),
+        1..=8 => usual_length(pick(seed, PERIODS, 1, 0, USUAL_ODDS)),
+        _ => plus(pick(seed, PERIODS, 1, 0, LONGEST_TICK), 1),
+    }
+}
+
+// The same shape, written in ticks.
+pub fn in_ticks(g: Shape) -> Shape {
+    let mut h = g;
+    h.period = ONE_MILLISECOND;
+    h
+}
+
+// A shape with one change in `often` of CHANGE_ODDS times. It is written for a tick length, in ticks if that is out of range.
+pub fn shape_of(period: usize, size: u32, seed: u32, gap: u32, often: usize) -> Shape {
     let mut change = NO_CHANGE;
     if pick(gap, CHANGE, 0, 0, CHANGE_ODDS) < often {
         change = pick(gap, CHANGE, 1, 0, CHANGES);
@@ -1010,10 +1138,15 @@ pub fn shape_of(size: u32, seed: u32, gap: u32, often: usize) -> Shape {
             change = change % OTHER_OUTPUT;
         }
     }
-    Shape {
+    let g = Shape {
+        period,
         size,
         seed,
         gap,
         change,
+    };
+    if period == 0 || LONGEST_TICK < period {
+        return in_ticks(g);
     }
+    g
 }

@@ -19,14 +19,16 @@ use Rattle.reader.specs.Reading.{start, channel-part, process-part, cloc
 abbrev pub Reads-any : (State → State) → (Text → State) → (Text → State) → Type 0
 Reads-any part r q = (t : Text) → part (r t) ≡ q t
 
--- an optional list, where the reader has come to `opened` past the words that open it, of which `word` is the first
-abbrev pub list-past : ℕ → Status → Item → List ℕ → State → State
-list-past word opened k s r = cond (ahead s (r .status) word) (items k s (stopped r opened)) r
-
--- the parts before `init`
-abbrev pub read-head : List ℕ → State
-read-head s = location-part s (clock-part s (process-part s (channel-part s start)))
-
 -- the location u is where the record starts
 abbrev pub started : List Name → Use → Text → State
 started names u t = state-of (u .status) names (with-init t (u .number))
+
+-- at one tick length, `period` (SPECIFICATION 4.7)
+module _ (period : ℕ) where
+  -- an optional list, where the reader has come to `opened` past the words that open it, of which `word` is the first
+  abbrev pub list-past : ℕ → Status → Item → List ℕ → State → State
+  list-past word opened k s r = cond (ahead s (r .status) word) (items period k s (stopped r opened)) r
+
+  -- the parts before `init`
+  abbrev pub read-head : List ℕ → State
+  read-head s = location-part period s (clock-part period s (process-part s (channel-part period s start)))

@@ -1,5 +1,5 @@
-// Reads a contract text into its record (SPECIFICATION 5.1), or refuses it with one of the codes 1 to 8
-// (SPECIFICATION 4.5).
+// Reads a contract text into its record (SPECIFICATION 5.1) at a tick length, `period`, or refuses it with code 24
+// (SPECIFICATION 4.7) or one of the codes 1 to 8 (SPECIFICATION 4.5).
 ghost use mathlib.Core.Path.{_≡_};
 ghost use mathlib.Core.Bool.{false};
 ghost use Prim.Native.Nat.{_≤_, _<_};
@@ -7,7 +7,7 @@ ghost use lib.ListN.{length};
 ghost use Rattle.reader_lists.specs.Turns.{item, state-of};
 ghost use Rattle.reader_lists.specs.Heads.{no-edges, before-edges, with-rest, Reads-head, Reads-edges};
 ghost use Rattle.reader.specs.Reading.{start, channel-part, process-part, clock-part, location-part, init-part};
-ghost use Rattle.reader.specs.Reading.{edge-part, end-part, read-whole, refused, answer, read-text};
+ghost use Rattle.reader.specs.Reading.{edge-part, end-part, read-whole, refused-by, refused, answer, read-text};
 ghost use Rattle.reader.specs.Parts.{list-past, started, read-head, Reads-any};
 ghost use Rattle.reader.specs.Faults.{refusal-of};
 use limits::CHANNEL_LIMIT;
@@ -29,7 +29,7 @@ use reader_record::Name;
 use reader_record::Text;
 use refusals::Refusal;
 use refusals::Verdict;
-ghost use Rattle.limits.specs.Limits.{largest-text};
+ghost use Rattle.limits.specs.Limits.{Tick-length, largest-text};
 
 // The answer, and the record of the text where it is accepted.
 pub struct Parsed {
@@ -54,26 +54,33 @@ fn start() -> HeadRead
 
 // An optional list. `word` is the first of the words that open it, and `opened` is how far the reader has come past
 // them, which counts only where the list is there.
-fn list_part(s: &[u8], r: HeadRead, word: usize, opened: Status, k: Named) -> HeadRead
-    requires { ⌜ length (now s) ≤ largest-text ⌝ }
-    ensures { λ q. ⌜ Reads-head (list-past word opened (item k) (now (s .entry))) r q ⌝ }
+fn list_part(
+    period: usize,
+    s: &[u8],
+    r: HeadRead,
+    word: usize,
+    opened: Status,
+    k: Named,
+) -> HeadRead
+    requires { ⌜ Tick-length period × (length (now s) ≤ largest-text) ⌝ }
+    ensures { λ q. ⌜ Reads-head (list-past period word opened (item k) (now (s .entry))) r q ⌝ }
 {
     let st = r.status;
     if reader_parts::ahead(s, st, word) {
-        return reader_lists::named_items(s, opened, r, k);
+        return reader_lists::named_items(period, s, opened, r, k);
     }
     r
 }
 
 // The channels, where there are any (SPECIFICATION 3.1).
-fn channel_part(s: &[u8], r: HeadRead) -> HeadRead
-    requires { ⌜ length (now s) ≤ largest-text ⌝ }
-    ensures { λ q. ⌜ Reads-head (channel-part (now (s .entry))) r q ⌝ }
+fn channel_part(period: usize, s: &[u8], r: HeadRead) -> HeadRead
+    requires { ⌜ Tick-length period × (length (now s) ≤ largest-text) ⌝ }
+    ensures { λ q. ⌜ Reads-head (channel-part period (now (s .entry))) r q ⌝ }
 {
     let st = r.status;
     let a = reader_parts::take(s, st, reader_tokens::BROADCAST);
     let b = reader_parts::take(s, a, reader_tokens::CHAN);
-    list_part(s, r, reader_tokens::BROADCAST, b, Named::Channel)
+    list_part(period, s, r, reader_tokens::BROADCAST, b, Named::Channel)
 }
 
 // The process and its name (SPECIFICATION 3.1).
@@ -97,32 +104,32 @@ fn process_part(s: &[u8], st: Status, names: [Name; NAME_SLOTS]) -> Declaration
 }
 
 // The clocks, where there are any (SPECIFICATION 3.1).
-fn clock_part(s: &[u8], r: HeadRead) -> HeadRead
-    requires { ⌜ length (now s) ≤ largest-text ⌝ }
-    ensures { λ q. ⌜ Reads-head (clock-part (now (s .entry))) r q ⌝ }
+fn clock_part(period: usize, s: &[u8], r: HeadRead) -> HeadRead
+    requires { ⌜ Tick-length period × (length (now s) ≤ largest-text) ⌝ }
+    ensures { λ q. ⌜ Reads-head (clock-part period (now (s .entry))) r q ⌝ }
 {
     let st = r.status;
     let a = reader_parts::take(s, st, reader_tokens::CLOCK);
-    list_part(s, r, reader_tokens::CLOCK, a, Named::Clock)
+    list_part(period, s, r, reader_tokens::CLOCK, a, Named::Clock)
 }
 
 // The locations (SPECIFICATION 3.1).
-fn location_part(s: &[u8], r: HeadRead) -> HeadRead
-    requires { ⌜ length (now s) ≤ largest-text ⌝ }
-    ensures { λ q. ⌜ Reads-head (location-part (now (s .entry))) r q ⌝ }
+fn location_part(period: usize, s: &[u8], r: HeadRead) -> HeadRead
+    requires { ⌜ Tick-length period × (length (now s) ≤ largest-text) ⌝ }
+    ensures { λ q. ⌜ Reads-head (location-part period (now (s .entry))) r q ⌝ }
 {
     let st = r.status;
     let a = reader_parts::take(s, st, reader_tokens::STATE);
-    reader_lists::named_items(s, a, r, Named::Location)
+    reader_lists::named_items(period, s, a, r, Named::Location)
 }
 
 // The parts before `init`.
-fn read_head(s: &[u8]) -> HeadRead
-    requires { ⌜ length (now s) ≤ largest-text ⌝ }
-    ensures { λ r. ⌜ with-rest r 0 no-edges 0 ≡ read-head (now (s .entry)) ⌝ }
+fn read_head(period: usize, s: &[u8]) -> HeadRead
+    requires { ⌜ Tick-length period × (length (now s) ≤ largest-text) ⌝ }
+    ensures { λ r. ⌜ with-rest r 0 no-edges 0 ≡ read-head period (now (s .entry)) ⌝ }
 {
     let a = start();
-    let b = channel_part(s, a);
+    let b = channel_part(period, s, a);
     let st = b.status;
     let before = b.names;
     let d = process_part(s, st, before);
@@ -134,8 +141,8 @@ fn read_head(s: &[u8]) -> HeadRead
         names: names,
         head: head,
     };
-    let e = clock_part(s, c);
-    location_part(s, e)
+    let e = clock_part(period, s, c);
+    location_part(period, s, e)
 }
 
 // The start (SPECIFICATION 3.1).
@@ -156,17 +163,18 @@ fn init_part(s: &[u8], st: Status, names: [Name; NAME_SLOTS]) -> Use
 
 // The edges, where there are any (SPECIFICATION 3.1).
 fn edge_part(
+    period: usize,
     s: &[u8],
     st: Status,
     names: [Name; NAME_SLOTS],
     channels: [Channel; CHANNEL_LIMIT],
 ) -> EdgesRead
-    requires { ⌜ length (now s) ≤ largest-text ⌝ }
-    ensures { λ r. ⌜ Reads-edges (edge-part (now (s .entry))) names (before-edges st channels) r ⌝ }
+    requires { ⌜ Tick-length period × (length (now s) ≤ largest-text) ⌝ }
+    ensures { λ r. ⌜ Reads-edges (edge-part period (now (s .entry))) names (before-edges st channels) r ⌝ }
 {
     if reader_parts::ahead(s, st, reader_tokens::TRANS) {
         let a = reader_parts::take(s, st, reader_tokens::TRANS);
-        return reader_lists::edges(s, a, names, channels);
+        return reader_lists::edges(period, s, a, names, channels);
     }
     reader_lists::no_edges(st, channels)
 }
@@ -201,28 +209,35 @@ fn refusal_of(f: Fault) -> Refusal
 }
 
 // A refused text has no record: the one beside the refusal is fixed.
-fn refused(f: Fault) -> Parsed
-    ensures { λ r. ⌜ r ≡ refused f ⌝ }
+fn refused_by(why: Refusal) -> Parsed
+    ensures { λ r. ⌜ r ≡ refused-by why ⌝ }
 {
-    let why = refusal_of(f);
     let answer = Verdict::Refused(why);
     let text = reader_lists::no_text();
     Parsed { answer, text }
 }
 
-// The parts in their order, and the record put together where all of them fit.
-fn read_whole(s: &[u8]) -> Parsed
-    requires { ⌜ length (now s) ≤ largest-text ⌝ }
-    ensures { λ r. ⌜ r ≡ answer (read-whole (now (s .entry)) .status) (read-whole (now (s .entry)) .text) ⌝ }
+fn refused(f: Fault) -> Parsed
+    ensures { λ r. ⌜ r ≡ refused f ⌝ }
 {
-    let r = read_head(s);
+    let why = refusal_of(f);
+    refused_by(why)
+}
+
+// The parts in their order, and the record put together where all of them fit.
+fn read_whole(period: usize, s: &[u8]) -> Parsed
+    requires { ⌜ Tick-length period × (length (now s) ≤ largest-text) ⌝ }
+    ensures { λ r. ⌜ r ≡ answer (read-whole period (now (s .entry)) .status)
+        (read-whole period (now (s .entry)) .text) ⌝ }
+{
+    let r = read_head(period, s);
     let st = r.status;
     let names = r.names;
     let i = init_part(s, st, names);
     let h = r.head;
     let given = h.channels;
     let on = i.status;
-    let e = edge_part(s, on, names, given);
+    let e = edge_part(period, s, on, names, given);
     let came = e.status;
     let end = end_part(s, came, names);
     let channels = e.channels;
@@ -249,14 +264,18 @@ fn read_whole(s: &[u8]) -> Parsed
     }
 }
 
-// The record of the text, or its refusal: the operation read (SPECIFICATION 12.1) as far as code 8. Codes 9 to 11 are
-// judged by the crates above, which know states and moves.
-pub fn parse(text: &[u8]) -> Parsed
-    ensures { λ r. ⌜ r ≡ read-text (now (text .entry)) ⌝ }
+// The record of the text at a tick length, or its refusal: the operation read (SPECIFICATION 12.1) as far as code 8.
+// Codes 9 to 11 are judged by the crates above, which know states and moves.
+pub fn parse(period: usize, text: &[u8]) -> Parsed
+    ensures { λ r. ⌜ r ≡ read-text period (now (text .entry)) ⌝ }
 {
+    if !limits::is_tick_length(period) {
+        let why = Refusal::tick_out_of_range(period);
+        return refused_by(why);
+    }
     if LARGEST_TEXT < text.len() {
         let f = Fault::TooLong;
         return refused(f);
     }
-    read_whole(text)
+    read_whole(period, text)
 }

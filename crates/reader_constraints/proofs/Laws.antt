@@ -16,17 +16,19 @@ use Rattle.reader_constraints.specs.Facts.{constant-small}
 use Rattle.limits.specs.Limits.{largest-constant}
 
 pub amount-small :
-    (least : ℕ) (s : List ℕ) (st : Status) (a : Amount) → a ≡ constant least s st → a .value ≤ largest-constant
-amount-small least s st a e = rw e (constant-small least s st)
+    (period least : ℕ) (s : List ℕ) (st : Status) (a : Amount) → a ≡ constant period least s st
+    → a .value ≤ largest-constant
+amount-small period least s st a e = rw e (constant-small period least s st)
 
-module _ (s : List ℕ) (names : List Name) (invariant : Bool) (closing : ℕ) (st : Status) (c : Constraint) where
-  pub turn-full : {x : ComparisonRead} → x ≡ comparison-next s st names invariant true
-      → constraint-from 0 s names invariant closing st c ≡ record { status = x .status; constraint = c }
+module _ (period : ℕ) (s : List ℕ) (names : List Name) (invariant : Bool) (closing : ℕ) (st : Status)
+    (c : Constraint) where
+  pub turn-full : {x : ComparisonRead} → x ≡ comparison-next period s st names invariant true
+      → constraint-from period 0 s names invariant closing st c ≡ record { status = x .status; constraint = c }
   unfolding constraint-from
   turn-full e = rw (sym e)
 
-  module _ {x : ComparisonRead} (e : x ≡ comparison-next s st names invariant false) (room : ℕ) where
-    pub turn-last : ahead s (x .status) kinds.both ≡ false → constraint-from
+  module _ {x : ComparisonRead} (e : x ≡ comparison-next period s st names invariant false) (room : ℕ) where
+    pub turn-last : ahead s (x .status) kinds.both ≡ false → constraint-from period
         (suc room) s names invariant closing st c ≡ record {
           status = take s (x .status) closing;
           constraint =
@@ -35,8 +37,8 @@ module _ (s : List ℕ) (names : List Name) (invariant : Bool) (closing : ℕ) (
     unfolding constraint-from
     turn-last h = rw (sym e, h)
 
-    pub turn-more : ahead s (x .status) kinds.both ≡ true → constraint-from
-        (suc room) s names invariant closing st c ≡ constraint-from room s names invariant closing (take s
+    pub turn-more : ahead s (x .status) kinds.both ≡ true → constraint-from period
+        (suc room) s names invariant closing st c ≡ constraint-from period room s names invariant closing (take s
         (x .status) kinds.both) (with-comparison c (x .comparison))
     unfolding constraint-from
     turn-more h = rw (sym e, h)

@@ -1,7 +1,8 @@
--- Guards and invariants (SPECIFICATION 3.1, 3.2, 3.4), with limits on comparisons and constants (SPECIFICATION 4.3).
+-- Guards and invariants (SPECIFICATION 3.1, 3.2, 3.4), with limits on comparisons and constants (SPECIFICATION 4.3);
+-- their constants are milliseconds and come to ticks (SPECIFICATION 4.7).
 use mathlib.Core.Bool.{Bool, true, false, cond}
 use mathlib.Core.List.{List}
-use Prim.Native.Nat.{ℕ, zero, suc, _+_}
+use Prim.Native.Nat.{ℕ, zero, suc, _+_, _*_, _/_}
 use lib.Dec.{eqb, ltb}
 use lib.ListN.{drop, set, replicate}
 use Rattle.reader_tokens.specs.Kinds as kinds
@@ -27,26 +28,13 @@ use Rattle.reader_constraints.specs.declared.ComparisonRead.{ComparisonR
 use Rattle.reader_constraints.specs.declared.ConstraintRead.{ConstraintRead}
 use Rattle.limits.specs.Limits.{clock-limit, comparison-limit, largest-constant}
 
+-- what a number of milliseconds comes to in ticks of `period` milliseconds: the nearest whole number, an exact half
+-- upward (SPECIFICATION 4.7)
+unfoldable pub in-ticks : ℕ → ℕ → ℕ
+in-ticks period c = (2 * c + period) / (2 * period)
+
 abbrev pub no-amount : Fault → Amount
 no-amount f = record { status = Refused f; value = 0 }
-
--- a token that has to be a numeral: else code 2, and 6 where its value is over the limit (SPECIFICATION 4.2, 4.5); a
--- value below the least one that may stand there is 2 as well (SPECIFICATION 3.2)
-unfoldable pub constant-of : ℕ → List ℕ → Token → Amount
-constant-of least s t =
-    let v = numeral-value 0 (drop (t .place) s) in
-    cond (eqb (t .kind) kinds.numeral)
-    (cond (ltb largest-constant v)
-    (no-amount (TooLarge (t .place)))
-    (cond (ltb v least)
-    (no-amount (Misfit (t .place)))
-    (record { status = At (t .end); value = v })))
-    (no-amount (Misfit (t .place)))
-
--- the next token as a constant
-unfoldable pub constant : ℕ → List ℕ → Status → Amount
-constant least s (Refused f) = no-amount f
-constant least s (At p) = constant-of least s (token-at s p)
 
 -- the least constant that may stand after a sign in an invariant: 0, but 1 after `<`, since `x < 0` would forbid the
 -- whole location (SPECIFICATION 3.2)
@@ -83,17 +71,6 @@ unfoldable pub sign-next : List ℕ → Status → Bool → SignRead
 sign-next s (Refused f) invariant = no-sign f
 sign-next s (At p) invariant = sign-of invariant (token-at s p)
 
--- a comparison (SPECIFICATION 3.1); `over`: it is one too many, which is code 7 at its clock (SPECIFICATION 4.5)
-unfoldable pub comparison-next : List ℕ → Status → List Name → Bool → Bool → ComparisonRead
-comparison-next s st names invariant over =
-    let clock = use-name s st names first-clock clock-limit over in
-    let sign = sign-next s (clock .status) invariant in
-    let bound = constant (least-constant invariant (sign .sign)) s (sign .status) in
-    record {
-      status = bound .status;
-      comparison = record { clock = clock .number; sign = sign .sign; bound = bound .value };
-    }
-
 -- of no comparison, and as long as the code's array (the `no-constraint` of reader_record stands past the end of a
 -- list, where an array inside is empty)
 unfoldable pub blank-constraint : Constraint
@@ -103,31 +80,64 @@ blank-constraint = record { comparisons = replicate comparison-limit no-comparis
 unfoldable pub with-comparison : Constraint → Comparison → Constraint
 with-comparison c x = record { comparisons = set (c .comparisons) (c .count) x; count = c .count + 1 }
 
--- comparisons joined by `&&`, then the closing token; there is room for so many after c, and the first past them is
--- refused. There is one comparison at least (SPECIFICATION 3.4)
-unfoldable pub constraint-from : ℕ → List ℕ → List Name → Bool → ℕ → Status → Constraint → ConstraintRead
-constraint-from zero s names invariant closing st c =
-    record { status = comparison-next s st names invariant true .status; constraint = c }
-constraint-from (suc room) s names invariant closing st c =
-    let x = comparison-next s st names invariant false in
-    let d = with-comparison c (x .comparison) in
-    let more = constraint-from room s names invariant closing (take s (x .status) kinds.both) d in
-    cond (ahead s (x .status) kinds.both) more (record { status = take s (x .status) closing; constraint = d })
+-- what is read at one tick length, `period` (SPECIFICATION 4.7)
+module _ (period : ℕ) where
+  -- a token that has to be a numeral: else code 2, and 6 where it comes to more ticks than the limit (SPECIFICATION
+  -- 4.2, 4.5, 4.7); where it comes to fewer than the least number that may stand there it is 2 as well (SPECIFICATION
+  -- 3.2)
+  unfoldable pub constant-of : ℕ → List ℕ → Token → Amount
+  constant-of least s t =
+      let v = in-ticks period (numeral-value 0 (drop (t .place) s)) in
+      cond (eqb (t .kind) kinds.numeral)
+      (cond (ltb largest-constant v)
+      (no-amount (TooLarge (t .place)))
+      (cond (ltb v least)
+      (no-amount (Misfit (t .place)))
+      (record { status = At (t .end); value = v })))
+      (no-amount (Misfit (t .place)))
 
--- as many comparisons as the limit allows (SPECIFICATION 4.3)
-unfoldable pub constraint : List ℕ → Status → List Name → Bool → ℕ → ConstraintRead
-constraint s st names invariant closing = constraint-from comparison-limit s names invariant closing st blank-constraint
+  -- the next token as a constant
+  unfoldable pub constant : ℕ → List ℕ → Status → Amount
+  constant least s (Refused f) = no-amount f
+  constant least s (At p) = constant-of least s (token-at s p)
 
--- an optional constraint: the token that opens it, its comparisons and the token that closes it
-unfoldable pub optional : ℕ → Bool → ℕ → List ℕ → Status → List Name → ConstraintRead
-optional opening invariant closing s st names =
-    let given = constraint s (take s st opening) names invariant closing in
-    cond (ahead s st opening) given (record { status = st; constraint = blank-constraint })
+  -- a comparison (SPECIFICATION 3.1); `over`: it is one too many, which is code 7 at its clock (SPECIFICATION 4.5)
+  unfoldable pub comparison-next : List ℕ → Status → List Name → Bool → Bool → ComparisonRead
+  comparison-next s st names invariant over =
+      let clock = use-name s st names first-clock clock-limit over in
+      let sign = sign-next s (clock .status) invariant in
+      let bound = constant (least-constant invariant (sign .sign)) s (sign .status) in
+      record {
+        status = bound .status;
+        comparison = record { clock = clock .number; sign = sign .sign; bound = bound .value };
+      }
 
--- the guard of an edge, where there is one (SPECIFICATION 3.1)
-abbrev pub guard : List ℕ → Status → List Name → ConstraintRead
-guard = optional kinds.guard false kinds.semicolon
+  -- comparisons joined by `&&`, then the closing token; there is room for so many after c, and the first past them is
+  -- refused. There is one comparison at least (SPECIFICATION 3.4)
+  unfoldable pub constraint-from : ℕ → List ℕ → List Name → Bool → ℕ → Status → Constraint → ConstraintRead
+  constraint-from zero s names invariant closing st c =
+      record { status = comparison-next s st names invariant true .status; constraint = c }
+  constraint-from (suc room) s names invariant closing st c =
+      let x = comparison-next s st names invariant false in
+      let d = with-comparison c (x .comparison) in
+      let more = constraint-from room s names invariant closing (take s (x .status) kinds.both) d in
+      cond (ahead s (x .status) kinds.both) more (record { status = take s (x .status) closing; constraint = d })
 
--- the invariant of a location, where there is one (SPECIFICATION 3.1)
-abbrev pub invariant : List ℕ → Status → List Name → ConstraintRead
-invariant = optional kinds.opens true kinds.closes
+  -- as many comparisons as the limit allows (SPECIFICATION 4.3)
+  unfoldable pub constraint : List ℕ → Status → List Name → Bool → ℕ → ConstraintRead
+  constraint s st names invariant closing = constraint-from comparison-limit s names invariant closing st
+      blank-constraint
+
+  -- an optional constraint: the token that opens it, its comparisons and the token that closes it
+  unfoldable pub optional : ℕ → Bool → ℕ → List ℕ → Status → List Name → ConstraintRead
+  optional opening invariant closing s st names =
+      let given = constraint s (take s st opening) names invariant closing in
+      cond (ahead s st opening) given (record { status = st; constraint = blank-constraint })
+
+  -- the guard of an edge, where there is one (SPECIFICATION 3.1)
+  abbrev pub guard : List ℕ → Status → List Name → ConstraintRead
+  guard = optional kinds.guard false kinds.semicolon
+
+  -- the invariant of a location, where there is one (SPECIFICATION 3.1)
+  abbrev pub invariant : List ℕ → Status → List Name → ConstraintRead
+  invariant = optional kinds.opens true kinds.closes

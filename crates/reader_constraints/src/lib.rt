@@ -1,9 +1,10 @@
-// Reads a guard or an invariant of a contract text (SPECIFICATION 3.1, 3.2).
+// Reads a guard or an invariant of a contract text (SPECIFICATION 3.1, 3.2) at a tick length, `period` (SPECIFICATION
+// 4.7).
 ghost use mathlib.Core.Path.{_≡_};
 ghost use mathlib.Core.Bool.{true, false};
 ghost use Prim.Native.Nat.{_+_, _≤_, _<_};
 ghost use lib.ListN.{length};
-ghost use Rattle.reader_constraints.specs.Constraints.{no-amount, constant-of, constant, least-after, least-constant};
+ghost use Rattle.reader_constraints.specs.Constraints.{in-ticks, no-amount, constant-of, constant, least-after, least-constant};
 ghost use Rattle.reader_constraints.specs.Constraints.{no-sign, read-sign, sign-of, sign-next, comparison-next};
 ghost use Rattle.reader_constraints.specs.Constraints.{blank-constraint, with-comparison, constraint, optional};
 ghost use Rattle.reader_constraints.specs.Constraints.{guard, invariant};
@@ -19,7 +20,8 @@ use reader_record::Constraint;
 use reader_record::Name;
 use reader_record::Sign;
 use reader_tokens::Token;
-ghost use Rattle.limits.specs.Limits.{largest-text, comparison-limit};
+ghost use Rattle.reader_tokens.specs.Scan.{over-numeral};
+ghost use Rattle.limits.specs.Limits.{Tick-length, largest-text, comparison-limit};
 
 pub struct Amount {
     pub status: Status,
@@ -36,16 +38,26 @@ fn no_amount(f: Fault) -> Amount
     }
 }
 
-// A token that has to be a numeral of at least `least` and at most the largest constant.
-fn constant_of(s: &[u8], t: Token, least: usize) -> Amount
-    ensures { λ r. ⌜ r ≡ constant-of least (now (s .entry)) t ⌝ }
+// A number of milliseconds in ticks: the nearest whole number, an exact half upward (SPECIFICATION 4.7).
+fn in_ticks(period: usize, n: usize) -> usize
+    requires { ⌜ Tick-length period × (n ≤ over-numeral) ⌝ }
+    ensures { λ r. ⌜ r ≡ in-ticks period n ⌝ }
+{
+    (2 * n + period) / (2 * period)
+}
+
+// A token that has to be a numeral that comes to at least `least` ticks and at most the largest constant.
+fn constant_of(period: usize, s: &[u8], t: Token, least: usize) -> Amount
+    requires { ⌜ Tick-length period ⌝ }
+    ensures { λ r. ⌜ r ≡ constant-of period least (now (s .entry)) t ⌝ }
 {
     let a = t.place;
     let misfit = Fault::Misfit(a);
     if t.kind != reader_tokens::NUMERAL {
         return no_amount(misfit);
     }
-    let v = reader_tokens::number_at(s, a);
+    let n = reader_tokens::number_at(s, a);
+    let v = in_ticks(period, n);
     if LARGEST_CONSTANT < v {
         let f = Fault::TooLarge(a);
         return no_amount(f);
@@ -61,14 +73,15 @@ fn constant_of(s: &[u8], t: Token, least: usize) -> Amount
 }
 
 // The next token as a constant.
-fn constant(s: &[u8], st: Status, least: usize) -> Amount
-    ensures { λ r. ⌜ r ≡ constant least (now (s .entry)) st ⌝ }
+fn constant(period: usize, s: &[u8], st: Status, least: usize) -> Amount
+    requires { ⌜ Tick-length period ⌝ }
+    ensures { λ r. ⌜ r ≡ constant period least (now (s .entry)) st ⌝ }
 {
     match st {
         Status::Refused(f) => no_amount(f),
         Status::At(p) => {
             let t = reader_scanner::scan(s, p);
-            constant_of(s, t, least)
+            constant_of(period, s, t, least)
         }
     }
 }
@@ -169,14 +182,15 @@ pub struct ComparisonRead {
 
 // A clock, a sign and a numeral. `over`: it is one comparison too many.
 fn comparison_next(
+    period: usize,
     s: &[u8],
     st: Status,
     names: [Name; NAME_SLOTS],
     invariant: bool,
     over: bool,
 ) -> ComparisonRead
-    requires { ⌜ length (now s) ≤ largest-text ⌝ }
-    ensures { λ r. ⌜ r ≡ comparison-next (now (s .entry)) st names invariant over ⌝ }
+    requires { ⌜ Tick-length period × (length (now s) ≤ largest-text) ⌝ }
+    ensures { λ r. ⌜ r ≡ comparison-next period (now (s .entry)) st names invariant over ⌝ }
 {
     let clock = reader_parts::use_name(s, st, names, FIRST_CLOCK, CLOCK_LIMIT, over);
     let after_clock = clock.status;
@@ -184,7 +198,7 @@ fn comparison_next(
     let after_sign = read.status;
     let sign = read.sign;
     let least = least_constant(invariant, sign);
-    let bound = constant(s, after_sign, least);
+    let bound = constant(period, s, after_sign, least);
     let number = clock.number as u8;
     let value = bound.value as u16;
     let made = Comparison {
@@ -233,27 +247,28 @@ pub struct ConstraintRead {
 
 // Comparisons joined by `&&`, then the closing token.
 fn constraint(
+    period: usize,
     s: &[u8],
     st: Status,
     names: [Name; NAME_SLOTS],
     invariant: bool,
     closing: usize,
 ) -> ConstraintRead
-    requires { ⌜ length (now s) ≤ largest-text ⌝ }
-    ensures { λ r. ⌜ r ≡ constraint (now (s .entry)) st names invariant closing ⌝ }
+    requires { ⌜ Tick-length period × (length (now s) ≤ largest-text) ⌝ }
+    ensures { λ r. ⌜ r ≡ constraint period (now (s .entry)) st names invariant closing ⌝ }
 {
     let mut c = blank_constraint();
     let mut q = st;
     loop {
         if COMPARISON_LIMIT <= c.count as usize {
-            let x = comparison_next(s, q, names, invariant, true);
+            let x = comparison_next(period, s, q, names, invariant, true);
             let no = x.status;
             return ConstraintRead {
                 status: no,
                 constraint: c,
             };
         }
-        let x = comparison_next(s, q, names, invariant, false);
+        let x = comparison_next(period, s, q, names, invariant, false);
         let came = x.status;
         let made = x.comparison;
         c = with_comparison(c, made);
@@ -270,6 +285,7 @@ fn constraint(
 
 // An optional constraint: the token that opens it, its comparisons and the token that closes it.
 fn optional(
+    period: usize,
     s: &[u8],
     st: Status,
     names: [Name; NAME_SLOTS],
@@ -277,12 +293,12 @@ fn optional(
     invariant: bool,
     closing: usize,
 ) -> ConstraintRead
-    requires { ⌜ length (now s) ≤ largest-text ⌝ }
-    ensures { λ r. ⌜ r ≡ optional opening invariant closing (now (s .entry)) st names ⌝ }
+    requires { ⌜ Tick-length period × (length (now s) ≤ largest-text) ⌝ }
+    ensures { λ r. ⌜ r ≡ optional period opening invariant closing (now (s .entry)) st names ⌝ }
 {
     if reader_parts::ahead(s, st, opening) {
         let q = reader_parts::take(s, st, opening);
-        return constraint(s, q, names, invariant, closing);
+        return constraint(period, s, q, names, invariant, closing);
     }
     let c = blank_constraint();
     ConstraintRead {
@@ -292,11 +308,12 @@ fn optional(
 }
 
 // The guard of an edge, where there is one (SPECIFICATION 3.1).
-pub fn guard(s: &[u8], st: Status, names: [Name; NAME_SLOTS]) -> ConstraintRead
-    requires { ⌜ length (now s) ≤ largest-text ⌝ }
-    ensures { λ r. ⌜ r ≡ guard (now (s .entry)) st names ⌝ }
+pub fn guard(period: usize, s: &[u8], st: Status, names: [Name; NAME_SLOTS]) -> ConstraintRead
+    requires { ⌜ Tick-length period × (length (now s) ≤ largest-text) ⌝ }
+    ensures { λ r. ⌜ r ≡ guard period (now (s .entry)) st names ⌝ }
 {
     optional(
+        period,
         s,
         st,
         names,
@@ -307,11 +324,12 @@ pub fn guard(s: &[u8], st: Status, names: [Name; NAME_SLOTS]) -> ConstraintRead
 }
 
 // The invariant of a location, where there is one (SPECIFICATION 3.1).
-pub fn invariant(s: &[u8], st: Status, names: [Name; NAME_SLOTS]) -> ConstraintRead
-    requires { ⌜ length (now s) ≤ largest-text ⌝ }
-    ensures { λ r. ⌜ r ≡ invariant (now (s .entry)) st names ⌝ }
+pub fn invariant(period: usize, s: &[u8], st: Status, names: [Name; NAME_SLOTS]) -> ConstraintRead
+    requires { ⌜ Tick-length period × (length (now s) ≤ largest-text) ⌝ }
+    ensures { λ r. ⌜ r ≡ invariant period (now (s .entry)) st names ⌝ }
 {
     optional(
+        period,
         s,
         st,
         names,

@@ -12,7 +12,8 @@ use Rattle.reader_edges.specs.Labels.{label-next}
 use Rattle.reader_edges.specs.Edges.{edge-next}
 use Rattle.limits.specs.Limits.{channel-limit}
 
-pub channel-small : (s : List ℕ) (st : Status) (names : List Name) (channels : List Channel) (over : Bool)
-    → edge-next s st names channels over .channel < channel-limit
-unfolding edge-next label-next
-channel-small s st names channels over = use-small s names first-channel channel-limit false (omega arith) _
+module _ (period : ℕ) where
+  pub channel-small : (s : List ℕ) (st : Status) (names : List Name) (channels : List Channel) (over : Bool)
+      → edge-next period s st names channels over .channel < channel-limit
+  unfolding edge-next label-next
+  channel-small s st names channels over = use-small s names first-channel channel-limit false (omega arith) _

@@ -21,7 +21,7 @@ use reader_record::Direction;
 use reader_record::Edge;
 use reader_record::Label;
 use reader_record::Name;
-ghost use Rattle.limits.specs.Limits.{largest-text, channel-limit};
+ghost use Rattle.limits.specs.Limits.{Tick-length, largest-text, channel-limit};
 
 pub struct MarkRead {
     pub status: Status,
@@ -248,14 +248,15 @@ pub struct EdgeRead {
 
 // An edge. `over`: it is one edge too many.
 pub fn edge_next(
+    period: usize,
     s: &[u8],
     st: Status,
     names: [Name; NAME_SLOTS],
     channels: [Channel; CHANNEL_LIMIT],
     over: bool,
 ) -> EdgeRead
-    requires { ⌜ length (now s) ≤ largest-text ⌝ }
-    ensures { λ r. ⌜ r ≡ edge-next (now (s .entry)) st names channels over ⌝ }
+    requires { ⌜ Tick-length period × (length (now s) ≤ largest-text) ⌝ }
+    ensures { λ r. ⌜ r ≡ edge-next period (now (s .entry)) st names channels over ⌝ }
 {
     let source = reader_parts::use_name(s, st, names, FIRST_LOCATION, LOCATION_LIMIT, over);
     let a = source.status;
@@ -263,7 +264,7 @@ pub fn edge_next(
     let target = reader_parts::use_name(s, b, names, FIRST_LOCATION, LOCATION_LIMIT, false);
     let c = target.status;
     let d = reader_parts::take(s, c, reader_tokens::OPEN);
-    let given = reader_constraints::guard(s, d, names);
+    let given = reader_constraints::guard(period, s, d, names);
     let e = given.status;
     let labelled = label_next(s, e, names, channels);
     let f = labelled.status;
@@ -273,9 +274,11 @@ pub fn edge_next(
     let guard = given.constraint;
     let label = labelled.label;
     let resets = assigned.resets;
+    let from = source.number as u8;
+    let to = target.number as u8;
     let made = Edge {
-        source: source.number as u8,
-        target: target.number as u8,
+        source: from,
+        target: to,
         guard: guard,
         label: label,
         resets: resets,

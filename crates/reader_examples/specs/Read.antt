@@ -1,16 +1,23 @@
--- The eight posts (SPECIFICATION 16.1) read to their records: computed by the definition of reading.
+-- The nine posts (SPECIFICATION 16.1) read to their records, at tick length 1, and Sheet at others (SPECIFICATION
+-- 16.9): computed by the definition of reading.
 use mathlib.Core.Path.{_≡_, refl}
 use mathlib.Core.List.{List}
 use Prim.Native.Nat.{ℕ}
 use Rattle.reader_record.specs.declared.Text.{Text}
-use Rattle.refusals.specs.declared.Verdict.the-variants.{Accepted}
+use Rattle.refusals.specs.declared.Verdict.the-variants.{Accepted, Refused}
+use Rattle.refusals.specs.Refusals.{constant-too-large, tick-out-of-range}
+use Rattle.reader_lists.specs.State.{no-text}
 use Rattle.reader.specs.Reading.{read-text}
 use Rattle.reader_examples.specs.Opened.{opened}
-use Rattle.reader_examples.specs.Texts.{post, rearm, early, strict, loose, hush, idle, spare}
-use Rattle.reader_examples.specs.Records.{post-record, rearm-record, early-record, strict-record, loose-record, hush-record, idle-record, spare-record}
+use Rattle.reader_examples.specs.Texts.{post, rearm, early, strict, loose, sheet, hush, idle, spare}
+use Rattle.reader_examples.specs.Records.{post-record, rearm-record, early-record, strict-record, loose-record, sheet-record, hush-record, idle-record, spare-record}
+use Rattle.limits.specs.Limits.{shortest-tick}
+
+abbrev pub Reads-at : ℕ → List ℕ → Text → Type 0
+Reads-at period s t = read-text period s ≡ record { answer = Accepted; text = t }
 
 abbrev pub Reads-to : List ℕ → Text → Type 0
-Reads-to s t = read-text s ≡ record { answer = Accepted; text = t }
+Reads-to = Reads-at shortest-tick
 
 pub post-read : Reads-to post post-record
 unfolding opened
@@ -43,3 +50,22 @@ loose-read = refl
 pub spare-read : Reads-to spare spare-record
 unfolding opened
 spare-read = refl
+
+-- a half goes up: 2,500 at 1,000 and 3,000 at 2,000; 2,500 at 2,000 goes down
+pub record Sheet-read : Type 0 where
+  pub at-1000 : Reads-at 1000 sheet (sheet-record 3 3)
+  pub at-2000 : Reads-at 2000 sheet (sheet-record 2 1)
+  pub at-60000 : Reads-at 60000 sheet (sheet-record 0 0)
+
+pub sheet-read : Sheet-read
+unfolding opened
+sheet-read = record { at-1000 = refl; at-2000 = refl; at-60000 = refl }
+
+-- at tick length 1 the first of the two constants is too large, and 0 is no tick length
+pub record Sheet-refused : Type 0 where
+  pub at-1 : read-text shortest-tick sheet ≡ record { answer = Refused (constant-too-large 78); text = no-text }
+  pub at-0 : read-text 0 sheet ≡ record { answer = Refused (tick-out-of-range 0); text = no-text }
+
+pub sheet-refused : Sheet-refused
+unfolding opened
+sheet-refused = record { at-1 = refl; at-0 = refl }

@@ -1,4 +1,4 @@
--- The records of the eight texts, written out: the names by byte place and length, clocks and locations from 0, channels
+-- The records of the nine texts, written out: the names by byte place and length, clocks and locations from 0, channels
 -- from 1.
 use mathlib.Core.Bool.{Bool, true, false}
 use mathlib.Core.List.{List, [], _∷_, _++_}
@@ -82,7 +82,7 @@ timed-edges spike late =
     ∷ edge 1 1 blank-constraint (Input 2) false
     ∷ []
 
--- Post and four others: the invariant of Wait, the place of Done, and the two edges differ
+-- Post and five others: the invariant of Wait, the place of Done, and the two edges differ
 abbrev timed : Constraint → ℕ → Bool → Constraint → Text
 timed wait done spike late = marker direction.Output (wait-done wait done) (timed-edges spike late)
 
@@ -104,6 +104,10 @@ strict-record = timed (x-is Less 4) 82 false (x-is Greater 2)
 -- the guard of `late` has the bound 2
 abbrev pub loose-record : Text
 loose-record = timed (x-is AtMost 3) 83 false (x-is AtLeast 2)
+
+-- by the two constants, in ticks; Done stands three bytes later in the text
+abbrev pub sheet-record : ℕ → ℕ → Text
+sheet-record wait late = timed (x-is AtMost wait) 86 false (x-is AtLeast late)
 
 -- Off with its invariant, and an edge from it to itself for each input
 abbrev pub spare-record : Text

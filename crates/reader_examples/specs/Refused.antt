@@ -1,28 +1,35 @@
 -- Refusals, each with its code and byte place (SPECIFICATION 4.5), and texts at the edges of the rules: computed by the
 -- definition of reading.
 use mathlib.Core.Path.{_≡_, refl}
-use Prim.Native.Nat.{suc}
+use Prim.Native.Nat.{ℕ, suc}
 use Prim.Native.Char.{code}
 use Prim.Native.String.{String}
 use lib.ListN.{replicate}
 use Rattle.refusals.specs.declared.Refusal.{Refusal}
-use Rattle.refusals.specs.Refusals.{text-too-long, misfit, name-too-long, declared-before, unknown-name, constant-too-large, too-many-items, other-mark}
+use Rattle.refusals.specs.Refusals.{text-too-long, misfit, name-too-long, declared-before, unknown-name, constant-too-large, too-many-items, other-mark, tick-out-of-range}
 use Rattle.reader_tokens.specs.Scan.{bytes}
 use Rattle.reader_lists.specs.State.{no-text}
 use Rattle.refusals.specs.declared.Verdict.the-variants.{Accepted, Refused}
 use Rattle.reader.specs.Reading.{read-text}
 use Rattle.reader_examples.specs.Opened.{opened}
-use Rattle.limits.specs.Limits.{largest-text}
+use Rattle.limits.specs.Limits.{largest-text, shortest-tick, longest-tick}
 
--- the text is refused so, and the record beside the refusal is the fixed one
+-- at a tick length the text is refused so, and the record beside the refusal is the fixed one
+abbrev pub Refuses-at : ℕ → String → Refusal → Type 0
+Refuses-at period s r = read-text period (bytes s) ≡ record { answer = Refused r; text = no-text }
+
+abbrev pub Accepts-at : ℕ → String → Type 0
+Accepts-at period s = read-text period (bytes s) .answer ≡ Accepted
+
+-- the same at tick length 1
 abbrev pub Refuses : String → Refusal → Type 0
-Refuses s r = read-text (bytes s) ≡ record { answer = Refused r; text = no-text }
+Refuses = Refuses-at shortest-tick
 
 abbrev pub Accepts : String → Type 0
-Accepts s = read-text (bytes s) .answer ≡ Accepted
+Accepts = Accepts-at shortest-tick
 
 pub too-long :
-    read-text (replicate (suc largest-text) (code " ")) ≡ record { answer = Refused text-too-long; text = no-text }
+    read-text shortest-tick (replicate (suc largest-text) (code " ")) ≡ record { answer = Refused text-too-long; text = no-text }
 unfolding opened
 too-long = refl
 
@@ -226,4 +233,54 @@ strict =
       parted = refl;
       large = refl;
       largest = refl;
+    }
+
+-- tick lengths: code 24 before code 1 and all others, and codes 2 and 6 of a constant by its ticks (SPECIFICATION 4.7,
+-- 13.4)
+pub record Lengths : Type 0 where
+  -- 24 below and above what is allowed
+  pub none : Refuses-at 0 "" (tick-out-of-range 0)
+  pub above : Refuses-at (suc longest-tick) "" (tick-out-of-range (suc longest-tick))
+  pub before-one :
+      read-text 0 (replicate (suc largest-text) (code " "))
+      ≡ record { answer = Refused (tick-out-of-range 0); text = no-text }
+  -- the largest constant at 2, 3 and 60,000 milliseconds, and the one above it
+  pub halves : Accepts-at 2 "process P(){clock x;state A{x<=2000},B;init B;}system P;"
+  pub halves-over : Refuses-at 2 "process P(){clock x;state A{x<=2001},B;init B;}system P;" (constant-too-large 31)
+  pub thirds : Accepts-at 3 "process P(){clock x;state A{x<=3001},B;init B;}system P;"
+  pub thirds-over : Refuses-at 3 "process P(){clock x;state A{x<=3002},B;init B;}system P;" (constant-too-large 31)
+  pub longest : Accepts-at longest-tick "process P(){clock x;state A{x<=60029999},B;init B;}system P;"
+  pub longest-over : Refuses-at longest-tick "process P(){clock x;state A{x<=60030000},B;init B;}system P;"
+      (constant-too-large 31)
+  pub nines : Refuses-at longest-tick
+      "process P(){clock x;state A{x<=9999999999999999999999999999999999999999},B;init B;}system P;"
+      (constant-too-large 31)
+  -- 0 ticks after `<` in an invariant: a third of a tick, not a half; 0 after `<=` and in a guard
+  pub third-is-zero : Refuses-at 3 "process P(){clock x;state A{x<1},B;init B;}system P;" (misfit 30)
+  pub half-is-one : Accepts-at 2 "process P(){clock x;state A{x<1},B;init B;}system P;"
+  pub two-thirds : Accepts-at 3 "process P(){clock x;state A{x<2},B;init B;}system P;"
+  pub at-most-third : Accepts-at 3 "process P(){clock x;state A{x<=1},B;init B;}system P;"
+  -- a reset is judged as it is written
+  pub reset : Refuses-at 3 "broadcast chan a;process P(){clock x;state A;init A;trans A->A{sync a!;assign x=1;};}system P;"
+      (misfit 80)
+
+pub lengths : Lengths
+unfolding opened
+lengths =
+    record {
+      none = refl;
+      above = refl;
+      before-one = refl;
+      halves = refl;
+      halves-over = refl;
+      thirds = refl;
+      thirds-over = refl;
+      longest = refl;
+      longest-over = refl;
+      nines = refl;
+      third-is-zero = refl;
+      half-is-one = refl;
+      two-thirds = refl;
+      at-most-third = refl;
+      reset = refl;
     }

@@ -1,4 +1,4 @@
--- The eight posts (SPECIFICATION 16.1), byte by byte.
+-- The nine posts (SPECIFICATION 16.1), byte by byte.
 use mathlib.Core.List.{List, [], _∷_, _++_}
 use Prim.Native.Nat.{ℕ}
 use Prim.Native.Char.{code}
@@ -10,7 +10,7 @@ abbrev pub lines : List String → List ℕ
 lines [] = []
 lines (l ∷ ls) = bytes l ++ (code "\n" ∷ lines ls)
 
--- what Post and four others have in common: the locations, the edge of `spike` from Wait and that of `late` differ
+-- what Post and five others have in common: the locations, the edge of `spike` from Wait and that of `late` differ
 abbrev marker : String → String → String → List ℕ
 marker locations spike late =
     lines
@@ -67,6 +67,14 @@ loose =
     "state Wait { x <= 3 }, Done;"
     "Wait -> Wait { sync spike?; },"
     "Wait -> Done { guard x >= 2; sync late!; },"
+
+-- constants in milliseconds, one of them half a tick of 1,000 (SPECIFICATION 16.1, 16.9)
+abbrev pub sheet : List ℕ
+sheet =
+    marker
+    "state Wait { x <= 3000 }, Done;"
+    "Wait -> Wait { sync spike?; },"
+    "Wait -> Done { guard x >= 2500; sync late!; },"
 
 -- the third edge is left out (SPECIFICATION 16.1)
 abbrev pub hush : List ℕ

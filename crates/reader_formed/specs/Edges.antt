@@ -198,24 +198,27 @@ pub record Edge-read (s : List ℕ) (st : Status) (names : List Name) (channels 
     pub target : (count : ℕ) → Known s names first-location location-limit count → r .edge .target < count
     pub assigned : (count : ℕ) → Known s names first-clock clock-limit count → Assigned count (r .edge .resets)
 
-pub edge-read :
-    (s : List ℕ) (st : Status) (names : List Name) (channels : List Channel) (over : Bool)
-    → Going (edge-next s st names channels over .status)
-    → Edge-read s st names channels (edge-next s st names channels over)
-unfolding edge-next
-edge-read s st names channels over g =
-    let a = assigns-read s names _ (take-going s _ kinds.closes g) in
-    let l = labelled s _ names channels (a .before) in
-    let q = optional-read kinds.guard false kinds.semicolon s _ names (l .before) in
-    let t = used s names first-location location-limit (omega arith) false _ (take-going s _ kinds.opens (q .before)) in
-    let o = used s names first-location location-limit (omega arith) over st (take-going s _ kinds.arrow (t .before)) in
-    record {
-      before = o .before;
-      right = l .right;
-      label = l .same;
-      known = l .known;
-      guard = q .formed;
-      source = λ n k. used-below s st names first-location location-limit n _ o k;
-      target = λ n k. used-below s _ names first-location location-limit n _ t k;
-      assigned = λ n k. a .assigned n k (none-assigned n);
-    }
+module _ (period : ℕ) where
+  pub edge-read :
+      (s : List ℕ) (st : Status) (names : List Name) (channels : List Channel) (over : Bool)
+      → Going (edge-next period s st names channels over .status)
+      → Edge-read s st names channels (edge-next period s st names channels over)
+  unfolding edge-next
+  edge-read s st names channels over g =
+      let a = assigns-read s names _ (take-going s _ kinds.closes g) in
+      let l = labelled s _ names channels (a .before) in
+      let q = optional-read period kinds.guard false kinds.semicolon s _ names (l .before) in
+      let t = used s names first-location location-limit (omega arith) false _
+      (take-going s _ kinds.opens (q .before)) in
+      let o = used s names first-location location-limit (omega arith) over st
+      (take-going s _ kinds.arrow (t .before)) in
+      record {
+        before = o .before;
+        right = l .right;
+        label = l .same;
+        known = l .known;
+        guard = q .formed;
+        source = λ n k. used-below s st names first-location location-limit n _ o k;
+        target = λ n k. used-below s _ names first-location location-limit n _ t k;
+        assigned = λ n k. a .assigned n k (none-assigned n);
+      }

@@ -33,7 +33,7 @@ use Rattle.reader_formed.specs.Comparisons.{Formed-comparisons}
 use Rattle.reader_formed.specs.State.{So-far, process-more, init-chosen}
 use Rattle.reader_formed.specs.Lists.{Good, Keeps, then, same-state, next-keeps, stopped-keeps, fresh, locations-known, list-keeps}
 use Rattle.reader_formed.specs.Start.{start-good}
-use Rattle.limits.specs.Limits.{largest-text, location-limit}
+use Rattle.limits.specs.Limits.{largest-text, location-limit, tick-allowed}
 
 -- the state after the name of the process, and after that of the start
 abbrev after-process : List ℕ → State → State
@@ -47,20 +47,6 @@ after-start s r =
     record { status = u .status; names = r .names; text = with-init (r .text) (u .number) }
 
 module _ (s : List ℕ) where
-  list-kept : {a : ℕ} (word : ℕ) (k : Item) (r : State) → Keeps a a s r (list-part word k s r)
-  unfolding list-part
-  list-kept {a} word k r =
-      either (λ (q : State). Keeps a a s r q) (ahead s (r .status) word)
-      (then s (next-keeps s r word) (list-keeps s k _))
-      (same-state s)
-
-  channels-kept : (r : State) → Keeps 0 0 s r (channel-part s r)
-  unfolding channel-part
-  channels-kept r =
-      either (λ (q : State). Keeps 0 0 s r q) (ahead s (r .status) kinds.broadcast)
-      (then s (next-keeps s r kinds.broadcast) (then s (next-keeps s _ kinds.chan) (list-keeps s Channel _)))
-      (same-state s)
-
   named-kept : (r : State) → Keeps 0 0 s r (after-process s r)
   named-kept r = record {
     going = λ g. declared s (r .names) process-slot 0 process-limit (r .status) g .before;
@@ -74,10 +60,6 @@ module _ (s : List ℕ) where
       then s (next-keeps s r kinds.process) (then s (named-kept _)
       (then s (next-keeps s _ kinds.left-paren) (then s (next-keeps s _ kinds.right-paren)
       (next-keeps s _ kinds.opens))))
-
-  locations-kept : (r : State) → Keeps 0 0 s r (location-part s r)
-  unfolding location-part
-  locations-kept r = then s (next-keeps s r kinds.state) (list-keeps s Location _)
 
   start-kept : (r : State) → Keeps 0 1 s r (after-start s r)
   start-kept r = record {
@@ -97,13 +79,32 @@ module _ (s : List ℕ) where
       (then s (stopped-keeps s _ _ (λ g. used s _ process-slot process-limit (omega arith) false _ g .before))
       (then s (next-keeps s _ kinds.semicolon) (next-keeps s _ kinds.end))))
 
-  whole-kept : Keeps 0 1 s start (read-whole s)
+module _ (period : ℕ) (s : List ℕ) where
+  list-kept : {a : ℕ} (word : ℕ) (k : Item) (r : State) → Keeps a a s r (list-part period word k s r)
+  unfolding list-part
+  list-kept {a} word k r =
+      either (λ (q : State). Keeps a a s r q) (ahead s (r .status) word)
+      (then s (next-keeps s r word) (list-keeps s period k _))
+      (same-state s)
+
+  channels-kept : (r : State) → Keeps 0 0 s r (channel-part period s r)
+  unfolding channel-part
+  channels-kept r =
+      either (λ (q : State). Keeps 0 0 s r q) (ahead s (r .status) kinds.broadcast)
+      (then s (next-keeps s r kinds.broadcast) (then s (next-keeps s _ kinds.chan) (list-keeps s period Channel _)))
+      (same-state s)
+
+  locations-kept : (r : State) → Keeps 0 0 s r (location-part period s r)
+  unfolding location-part
+  locations-kept r = then s (next-keeps s r kinds.state) (list-keeps s period Location _)
+
+  whole-kept : Keeps 0 1 s start (read-whole period s)
   unfolding read-whole
   whole-kept =
-      then s (channels-kept _) (then s (process-kept _) (then s (list-kept _ _ _) (then s (locations-kept _)
-      (then s (init-kept _) (then s (list-kept _ _ _) (end-kept _))))))
+      then s (channels-kept _) (then s (process-kept s _) (then s (list-kept _ _ _) (then s (locations-kept _)
+      (then s (init-kept s _) (then s (list-kept _ _ _) (end-kept s _))))))
 
-  whole-good : Going (read-whole s .status) → Good 1 s (read-whole s)
+  whole-good : Going (read-whole period s .status) → Good 1 s (read-whole period s)
   whole-good g = whole-kept .good g (start-good s)
 
 constraint-formed :
@@ -179,21 +180,27 @@ unfolding answer refused
 answered s (status.At p) t h a = h tt
 answered s (status.Refused f) t h a = absurd a
 
-keeps-promise : (s : List ℕ) → Is-accepted (read-text s .answer) → Promised s (read-text s .text)
-unfolding read-text refused
-keeps-promise s =
-    split (λ (r : Parsed). Is-accepted (r .answer) → Promised s (r .text)) (ltb largest-text (length s))
-    (λ _ a. absurd a)
-    (λ _. answered s _ _ (λ g. promised s _ _ (whole-good s g)))
+module _ (period : ℕ) where
+  keeps-promise : (s : List ℕ) → Is-accepted (read-text period s .answer) → Promised s (read-text period s .text)
+  unfolding read-text refused
+  keeps-promise s =
+      split P (tick-allowed period)
+      (λ _. split P (ltb largest-text (length s))
+      (λ _ a. absurd a)
+      (λ _. answered s _ _ (λ g. promised s _ _ (whole-good period s g))))
+      (λ _ a. absurd a)
+    where
+      P : Parsed → Type 0
+      P r = Is-accepted (r .answer) → Promised s (r .text)
 
-accepted : (s : List ℕ) → read-text s .answer ≡ Accepted → Promised s (read-text s .text)
-accepted s e = keeps-promise s (subst Is-accepted (sym e) tt)
+  accepted : (s : List ℕ) → read-text period s .answer ≡ Accepted → Promised s (read-text period s .text)
+  accepted s e = keeps-promise s (subst Is-accepted (sym e) tt)
 
-pub read-formed : (s : List ℕ) → read-text s .answer ≡ Accepted → Well-formed (read-text s .text)
-read-formed s e = accepted s e .formed
+  pub read-formed : (s : List ℕ) → read-text period s .answer ≡ Accepted → Well-formed (read-text period s .text)
+  read-formed s e = accepted s e .formed
 
-pub read-names : (s : List ℕ) → read-text s .answer ≡ Accepted → Names-within s (read-text s .text)
-read-names s e = accepted s e .within
+  pub read-names : (s : List ℕ) → read-text period s .answer ≡ Accepted → Names-within s (read-text period s .text)
+  read-names s e = accepted s e .within
 
-pub read-differ : (s : List ℕ) → read-text s .answer ≡ Accepted → Names-differ s (read-text s .text)
-read-differ s e = accepted s e .differ
+  pub read-differ : (s : List ℕ) → read-text period s .answer ≡ Accepted → Names-differ s (read-text period s .text)
+  read-differ s e = accepted s e .differ

@@ -124,9 +124,9 @@ module _ (s : List ℕ) where
         unless-full (leb clock-limit n) _ (λ g. named r first-clock n clock-limit g .before)
         (name-keeps first-clock n clock-limit _ (λ h f l. clock-more a s (r .names) (r .text) h _ f l))
 
-    location-keeps : Keeps a a s r (location-item s r)
+    location-keeps : (period : ℕ) → Keeps a a s r (location-item period s r)
     unfolding location-item
-    location-keeps =
+    location-keeps period =
         unless-full (leb location-limit n) _ (λ g. named r first-location n location-limit g .before) (record {
           going = λ g. place g .before;
           good = λ g h. let x = place g in
@@ -141,23 +141,25 @@ module _ (s : List ℕ) where
         d = name r first-location n location-limit
 
         i : ConstraintRead
-        i = invariant s (d .status) (d .names)
+        i = invariant period s (d .status) (d .names)
 
         u : Text
         u = with-location (r .text) (d .name) (i .constraint)
 
         place : Going (i .status) → Named r first-location n location-limit
-        place g = named r first-location n location-limit (optional-read kinds.opens true kinds.closes s (d .status) (d .names) g .before)
+        place g = named r first-location n location-limit
+            (optional-read period kinds.opens true kinds.closes s (d .status) (d .names) g .before)
 
         formed : Going (i .status) → Good a s r → Formed-comparisons (r .text .«clock_count») true (i .constraint)
         formed g h =
             let x = place g in
-            optional-read kinds.opens true kinds.closes s (d .status) (d .names) g .formed (r .text .«clock_count»)
+            optional-read period kinds.opens true kinds.closes s (d .status) (d .names) g .formed
+            (r .text .«clock_count»)
             (rw (x .stored) (clocks-stay a s (r .names) (r .text) h _ (fresh _ _ _ _ _ _ x) (x .room)))
 
-    edge-keeps : Keeps a a s r (edge-item s r)
+    edge-keeps : (period : ℕ) → Keeps a a s r (edge-item period s r)
     unfolding edge-item
-    edge-keeps =
+    edge-keeps period =
         split (λ (q : State). Keeps a a s r q) full (λ _. stopped-keeps r _ (λ g. new g .before))
         (λ room. record {
           going = λ g. new g .before;
@@ -171,26 +173,26 @@ module _ (s : List ℕ) where
         full = leb edge-limit (r .text .«edge_count»)
 
         e : EdgeRead
-        e = edge-next s (r .status) (r .names) (r .text .channels) full
+        e = edge-next period s (r .status) (r .names) (r .text .channels) full
 
         new : Going (e .status) → Edge-read s (r .status) (r .names) (r .text .channels) e
-        new g = edge-read s (r .status) (r .names) (r .text .channels) full g
+        new g = edge-read period s (r .status) (r .names) (r .text .channels) full g
 
-  module _ {a : ℕ} where
-    item-keeps : (k : Item) (r : State) → Keeps a a s r (one-item k s r)
+  module _ (period : ℕ) {a : ℕ} where
+    item-keeps : (k : Item) (r : State) → Keeps a a s r (one-item period k s r)
     item-keeps Channel r = channel-keeps r
     item-keeps Clock r = clock-keeps r
-    item-keeps Location r = location-keeps r
-    item-keeps Edge r = edge-keeps r
+    item-keeps Location r = location-keeps r period
+    item-keeps Edge r = edge-keeps r period
 
-    items-keep : (room : ℕ) (k : Item) (r : State) → Keeps a a s r (items-from room k s r)
+    items-keep : (room : ℕ) (k : Item) (r : State) → Keeps a a s r (items-from period room k s r)
     unfolding items-from
     items-keep zero k r = item-keeps k r
     items-keep (suc room) k r =
-        either (λ (q : State). Keeps a a s r q) (ahead s (one-item k s r .status) kinds.comma)
+        either (λ (q : State). Keeps a a s r q) (ahead s (one-item period k s r .status) kinds.comma)
         (then (item-keeps k r) (then (next-keeps _ kinds.comma) (items-keep room k _)))
         (then (item-keeps k r) (next-keeps _ kinds.semicolon))
 
-    pub list-keeps : (k : Item) (r : State) → Keeps a a s r (items k s r)
+    pub list-keeps : (k : Item) (r : State) → Keeps a a s r (items period k s r)
     unfolding items
     list-keeps k r = items-keep (limit k) k r

@@ -24,44 +24,6 @@ use Rattle.reader_lists.specs.Turns.{item, first-slot, count, state-of, 
 suc-room : (room : ℕ) → eqb (suc room) 0 ≡ false
 suc-room room = ne-eqb (suc room) 0 (λ h. omega arith)
 
-module _ (k : Item) (s : List ℕ) (r : State) {q : State} (e : q ≡ one-item k s r) where
-  after-last :
-      (room : ℕ) → after-item s (q .status) room .more ≡ false →
-      items-from room k s r ≡ state-of (after-item s (q .status) room .status) (q .names) (q .text)
-  unfolding items-from after-item next-token
-  after-last zero h = sym e
-  after-last (suc room) h = go (ahead s (q .status) kinds.comma) refl where
-    go : (b : Bool) → ahead s (q .status) kinds.comma ≡ b →
-        items-from (suc room) k s r ≡ state-of (after-item s (q .status) (suc room) .status) (q .names) (q .text)
-    go true a = let z : true ≡ false = rw (suc-room room, a) at h in cc
-    go false a = rw (sym e, a, suc-room room)
-
-  after-more :
-      (room : ℕ) → after-item s (q .status) room .more ≡ true →
-      items-from room k s r
-      ≡ items-from (room - 1) k s (state-of (after-item s (q .status) room .status) (q .names) (q .text))
-  unfolding items-from after-item next-token
-  after-more zero h = cc
-  after-more (suc room) h = go (ahead s (q .status) kinds.comma) refl where
-    one : suc room - 1 ≡ room
-    one = omega arith
-
-    go : (b : Bool) → ahead s (q .status) kinds.comma ≡ b →
-        items-from (suc room) k s r
-        ≡ items-from (suc room - 1) k s (state-of (after-item s (q .status) (suc room) .status) (q .names) (q .text))
-    go true a = rw (one, sym e, a, suc-room room)
-    go false a = let z : false ≡ true = rw (suc-room room, a) at h in cc
-
-  pub items-last :
-      (room : ℕ) {t : Turn} → t ≡ after-item s (q .status) room → t .more ≡ false →
-      items-from room k s r ≡ state-of (t .status) (q .names) (q .text)
-  items-last room a h = rw a (after-last room (rw a at h))
-
-  pub items-more :
-      (room : ℕ) {t : Turn} → t ≡ after-item s (q .status) room → t .more ≡ true →
-      items-from room k s r ≡ items-from (room - 1) k s (state-of (t .status) (q .names) (q .text))
-  items-more room a h = rw a (after-more room (rw a at h))
-
 -- another item comes only where there is room
 pub more-room :
     (s : List ℕ) (st : Status) (room : ℕ) {t : Turn} → t ≡ after-item s st room → t .more ≡ true → 0 < room
@@ -91,12 +53,53 @@ module _ (t : Text) (k : Named) {n l : ℕ} (e : l ≡ limit (item k)) (f : n �
   pub full : l ≤ n → leb (limit (item k)) (count-in k t) ≡ true
   full h = le-leb (limit (item k)) (count-in k t) (rw (e, f) at h)
 
--- where there is no room for an item of the kind k, its name is read and refused, and the record stays
-pub one-over :
-    (k : Named) (s : List ℕ) (r : State) → leb (limit (item k)) (count-in k (r .text)) ≡ true →
-    let d = declare s (r .status) (r .names) (first-slot k) (count-in k (r .text)) (limit (item k)) in
-    stopped r (d .status) ≡ one-item (item k) s r
-unfolding channel-item clock-item location-item
-one-over Channel s r h = rw h
-one-over Clock s r h = rw h
-one-over Location s r h = rw h
+module _ (period : ℕ) where
+  module _ (k : Item) (s : List ℕ) (r : State) {q : State} (e : q ≡ one-item period k s r) where
+    after-last :
+        (room : ℕ) → after-item s (q .status) room .more ≡ false →
+        items-from period room k s r ≡ state-of (after-item s (q .status) room .status) (q .names) (q .text)
+    unfolding items-from after-item next-token
+    after-last zero h = sym e
+    after-last (suc room) h = go (ahead s (q .status) kinds.comma) refl where
+      go : (b : Bool) → ahead s (q .status) kinds.comma ≡ b →
+          items-from period (suc room) k s r
+          ≡ state-of (after-item s (q .status) (suc room) .status) (q .names) (q .text)
+      go true a = let z : true ≡ false = rw (suc-room room, a) at h in cc
+      go false a = rw (sym e, a, suc-room room)
+
+    after-more :
+        (room : ℕ) → after-item s (q .status) room .more ≡ true →
+        items-from period room k s r
+        ≡ items-from period (room - 1) k s (state-of (after-item s (q .status) room .status) (q .names) (q .text))
+    unfolding items-from after-item next-token
+    after-more zero h = cc
+    after-more (suc room) h = go (ahead s (q .status) kinds.comma) refl where
+      one : suc room - 1 ≡ room
+      one = omega arith
+
+      go : (b : Bool) → ahead s (q .status) kinds.comma ≡ b →
+          items-from period (suc room) k s r
+          ≡ items-from period (suc room - 1) k s
+          (state-of (after-item s (q .status) (suc room) .status) (q .names) (q .text))
+      go true a = rw (one, sym e, a, suc-room room)
+      go false a = let z : false ≡ true = rw (suc-room room, a) at h in cc
+
+    pub items-last :
+        (room : ℕ) {t : Turn} → t ≡ after-item s (q .status) room → t .more ≡ false →
+        items-from period room k s r ≡ state-of (t .status) (q .names) (q .text)
+    items-last room a h = rw a (after-last room (rw a at h))
+
+    pub items-more :
+        (room : ℕ) {t : Turn} → t ≡ after-item s (q .status) room → t .more ≡ true →
+        items-from period room k s r ≡ items-from period (room - 1) k s (state-of (t .status) (q .names) (q .text))
+    items-more room a h = rw a (after-more room (rw a at h))
+
+  -- where there is no room for an item of the kind k, its name is read and refused, and the record stays
+  pub one-over :
+      (k : Named) (s : List ℕ) (r : State) → leb (limit (item k)) (count-in k (r .text)) ≡ true →
+      let d = declare s (r .status) (r .names) (first-slot k) (count-in k (r .text)) (limit (item k)) in
+      stopped r (d .status) ≡ one-item period (item k) s r
+  unfolding channel-item clock-item location-item
+  one-over Channel s r h = rw h
+  one-over Clock s r h = rw h
+  one-over Location s r h = rw h

@@ -37,37 +37,12 @@ clock-item s r =
     let q : State = record { status = d .status; names = d .names; text = with-clock (r .text) (d .name) } in
     cond (leb clock-limit n) (stopped r (d .status)) q
 
--- a location: its name is declared (SPECIFICATION 4.1), and its invariant may follow (SPECIFICATION 3.1)
-unfoldable pub location-item : List ℕ → State → State
-location-item s r =
-    let n = r .text .«location_count» in
-    let d = declare s (r .status) (r .names) first-location n location-limit in
-    let i = invariant s (d .status) (d .names) in
-    let u = with-location (r .text) (d .name) (i .constraint) in
-    let q : State = record { status = i .status; names = d .names; text = u } in
-    cond (leb location-limit n) (stopped r (d .status)) q
-
--- an edge (SPECIFICATION 3.1)
-unfoldable pub edge-item : List ℕ → State → State
-edge-item s r =
-    let full = leb edge-limit (r .text .«edge_count») in
-    let e = edge-next s (r .status) (r .names) (r .text .channels) full in
-    let u = with-edge (r .text) (e .edge) (e .channel) (e .input) in
-    let q : State = record { status = e .status; names = r .names; text = u } in
-    cond full (stopped r (e .status)) q
-
 -- the kinds of item that a list of the text has
 pub data Item : Type 0 where
   Channel : Item
   Clock : Item
   Location : Item
   Edge : Item
-
-abbrev pub one-item : Item → List ℕ → State → State
-one-item Channel = channel-item
-one-item Clock = clock-item
-one-item Location = location-item
-one-item Edge = edge-item
 
 -- how many items of a kind a text has at most (SPECIFICATION 4.3)
 abbrev pub limit : Item → ℕ
@@ -76,14 +51,41 @@ limit Clock = clock-limit
 limit Location = location-limit
 limit Edge = edge-limit
 
--- a list where there is room for so many more items, and `;`: where there is none the next item is refused. There is
--- one item at least, and one after each comma (SPECIFICATION 3.4)
-unfoldable pub items-from : ℕ → Item → List ℕ → State → State
-items-from zero k s r = one-item k s r
-items-from (suc room) k s r =
-    let q = one-item k s r in
-    let more = items-from room k s (next-token s q kinds.comma) in
-    cond (ahead s (q .status) kinds.comma) more (next-token s q kinds.semicolon)
+-- at one tick length, `period` (SPECIFICATION 4.7)
+module _ (period : ℕ) where
+  -- a location: its name is declared (SPECIFICATION 4.1), and its invariant may follow (SPECIFICATION 3.1)
+  unfoldable pub location-item : List ℕ → State → State
+  location-item s r =
+      let n = r .text .«location_count» in
+      let d = declare s (r .status) (r .names) first-location n location-limit in
+      let i = invariant period s (d .status) (d .names) in
+      let u = with-location (r .text) (d .name) (i .constraint) in
+      let q : State = record { status = i .status; names = d .names; text = u } in
+      cond (leb location-limit n) (stopped r (d .status)) q
 
-unfoldable pub items : Item → List ℕ → State → State
-items k s r = items-from (limit k) k s r
+  -- an edge (SPECIFICATION 3.1)
+  unfoldable pub edge-item : List ℕ → State → State
+  edge-item s r =
+      let full = leb edge-limit (r .text .«edge_count») in
+      let e = edge-next period s (r .status) (r .names) (r .text .channels) full in
+      let u = with-edge (r .text) (e .edge) (e .channel) (e .input) in
+      let q : State = record { status = e .status; names = r .names; text = u } in
+      cond full (stopped r (e .status)) q
+
+  abbrev pub one-item : Item → List ℕ → State → State
+  one-item Channel = channel-item
+  one-item Clock = clock-item
+  one-item Location = location-item
+  one-item Edge = edge-item
+
+  -- a list where there is room for so many more items, and `;`: where there is none the next item is refused. There is
+  -- one item at least, and one after each comma (SPECIFICATION 3.4)
+  unfoldable pub items-from : ℕ → Item → List ℕ → State → State
+  items-from zero k s r = one-item k s r
+  items-from (suc room) k s r =
+      let q = one-item k s r in
+      let more = items-from room k s (next-token s q kinds.comma) in
+      cond (ahead s (q .status) kinds.comma) more (next-token s q kinds.semicolon)
+
+  unfoldable pub items : Item → List ℕ → State → State
+  items k s r = items-from (limit k) k s r

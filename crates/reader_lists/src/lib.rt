@@ -24,7 +24,7 @@ use reader_record::Label;
 use reader_record::Location;
 use reader_record::Name;
 use reader_record::Text;
-ghost use Rattle.limits.specs.Limits.{largest-text, channel-limit};
+ghost use Rattle.limits.specs.Limits.{Tick-length, largest-text, channel-limit};
 
 // The kinds of item that declare a name.
 pub enum Named {
@@ -252,9 +252,9 @@ fn head_read(st: Status, names: [Name; NAME_SLOTS], head: Head) -> HeadRead
 
 // The channels, clocks or locations, joined by commas, and `;`, from `start` on, where the words before them are read:
 // the status in r is not used. The head is written in place.
-pub fn named_items(s: &[u8], start: Status, r: HeadRead, k: Named) -> HeadRead
-    requires { ⌜ length (now s) ≤ largest-text ⌝ }
-    ensures { λ q. ⌜ Reads-head (items (item k) (now (s .entry))) (head-read start (r .names) (r .head)) q ⌝ }
+pub fn named_items(period: usize, s: &[u8], start: Status, r: HeadRead, k: Named) -> HeadRead
+    requires { ⌜ Tick-length period × (length (now s) ≤ largest-text) ⌝ }
+    ensures { λ q. ⌜ Reads-head (items period (item k) (now (s .entry))) (head-read start (r .names) (r .head)) q ⌝ }
 {
     let mut st = start;
     let mut names = r.names;
@@ -278,7 +278,7 @@ pub fn named_items(s: &[u8], start: Status, r: HeadRead, k: Named) -> HeadRead
                     head.clock_count = n + 1;
                 }
                 Named::Location => {
-                    let i = reader_constraints::invariant(s, st, names);
+                    let i = reader_constraints::invariant(period, s, st, names);
                     st = i.status;
                     let invariant = i.constraint;
                     let location = Location { name, invariant };
@@ -298,13 +298,14 @@ pub fn named_items(s: &[u8], start: Status, r: HeadRead, k: Named) -> HeadRead
 
 // The edges, joined by commas, and `;`. The channels and the edges are written in place.
 pub fn edges(
+    period: usize,
     s: &[u8],
     start: Status,
     names: [Name; NAME_SLOTS],
     given: [Channel; CHANNEL_LIMIT],
 ) -> EdgesRead
-    requires { ⌜ length (now s) ≤ largest-text ⌝ }
-    ensures { λ r. ⌜ Reads-edges (items Item.Edge (now (s .entry))) names (before-edges start given) r ⌝ }
+    requires { ⌜ Tick-length period × (length (now s) ≤ largest-text) ⌝ }
+    ensures { λ r. ⌜ Reads-edges (items period Item.Edge (now (s .entry))) names (before-edges start given) r ⌝ }
 {
     let mut st = start;
     let mut channels = given;
@@ -314,7 +315,7 @@ pub fn edges(
     let mut room = EDGE_LIMIT;
     loop {
         let full = EDGE_LIMIT <= n;
-        let e = reader_edges::edge_next(s, st, names, channels, full);
+        let e = reader_edges::edge_next(period, s, st, names, channels, full);
         st = e.status;
         if !full {
             let edge = e.edge;

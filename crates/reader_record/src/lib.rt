@@ -33,8 +33,8 @@ pub enum Sign {
     Greater,
 }
 
-// A clock, by its number from 0, a sign and a constant (SPECIFICATION 5.3). A record is passed by value and holds
-// hundreds of comparisons, constraints and edges: their numbers are in the narrowest types that the limits allow.
+// A clock, by its number from 0, a sign and a constant in ticks (SPECIFICATION 5.3). A record is passed by value and
+// holds hundreds of comparisons, constraints and edges: their numbers are in the narrowest types that the limits allow.
 pub struct Comparison {
     pub clock: u8,
     pub sign: Sign,

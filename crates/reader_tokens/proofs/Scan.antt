@@ -10,7 +10,7 @@ use lib.ListN.{length, getD, drop, drop-of-length-le}
 use lib.Seq.{drop-cons}
 use lib.Dec.{leb}
 use borrow.Author.Tests.{eq-eqb, ne-eqb, leb-true}
-use Rattle.reader_tokens.specs.Scan.{is-digit, run, past, numeral-value, over-constant, clamped, agree}
+use Rattle.reader_tokens.specs.Scan.{is-digit, run, past, numeral-value, over-numeral, clamped, agree}
 use Rattle.reader_tokens.specs.Clamped.{clamped-low, clamped-high, by-clamp}
 
 module _ {A : Type 0} (p : A → Bool) (s : List A) (i : ℕ) (d : A) where
@@ -83,16 +83,16 @@ digit-low b h = by (leb (code "0") b) refl
     by true e = leb-true (code "0") b e
     by false e = never (rw e at h)
 
-pub clamped-small : (n : ℕ) → n ≤ over-constant → clamped n ≡ n
+pub clamped-small : (n : ℕ) → n ≤ over-numeral → clamped n ≡ n
 clamped-small n h = by-clamp (λ (m : ℕ). m ≡ n) n (λ l. refl) (λ l. omega arith)
 
 pub clamped-twice : (n : ℕ) → clamped (clamped n) ≡ clamped n
-clamped-twice n = by-clamp (λ (m : ℕ). clamped m ≡ m) n (λ l. clamped-low n l) (λ l. clamped-high over-constant
+clamped-twice n = by-clamp (λ (m : ℕ). clamped m ≡ m) n (λ l. clamped-low n l) (λ l. clamped-high over-numeral
     (omega arith))
 
 pub clamped-digit : (v d : ℕ) → clamped (clamped v * 10 + d) ≡ clamped (v * 10 + d)
 clamped-digit v d = by-clamp (λ (m : ℕ). clamped (m * 10 + d) ≡ clamped (v * 10 + d)) v (λ l. refl) (λ l. clamped-high
-    (over-constant * 10 + d) (omega arith) ∙ sym (clamped-high (v * 10 + d) (omega arith)))
+    (over-numeral * 10 + d) (omega arith) ∙ sym (clamped-high (v * 10 + d) (omega arith)))
 
 pub clamped-value : (x : List ℕ) (v : ℕ) → clamped (numeral-value (clamped v) x) ≡ clamped (numeral-value v x)
 unfolding numeral-value
@@ -105,6 +105,3 @@ clamped-value (b ∷ x) v = by (λ (n : ℕ). clamped-value x n) (is-digit b) re
         rw e (sym (again (clamped v * 10 + (b - code "0"))) ∙ ap (λ (n : ℕ). clamped (numeral-value n x)) (clamped-digit v
         (b - code "0")) ∙ again (v * 10 + (b - code "0")))
     by again false e = rw e (clamped-twice v)
-
-pub clamped-bound : (n : ℕ) → clamped n ≤ over-constant
-clamped-bound n = by-clamp (λ (m : ℕ). m ≤ over-constant) n (λ l. omega arith) (λ l. omega arith)

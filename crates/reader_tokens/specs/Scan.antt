@@ -7,7 +7,7 @@ use Prim.Native.Char.{Char, code}
 use Prim.Native.String.{String}
 use lib.Dec.{eqb, leb}
 use lib.ListN.{drop}
-use Rattle.limits.specs.Limits.{largest-constant}
+use Rattle.limits.specs.Limits.{largest-numeral}
 
 -- the bytes of a quoted text
 abbrev pub bytes : String → List ℕ
@@ -56,13 +56,13 @@ unfoldable pub numeral-value : ℕ → List ℕ → ℕ
 numeral-value a [] = a
 numeral-value a (b ∷ s) = let v = numeral-value (with-digit a b) s in cond (is-digit b) v a
 
--- what stands for every number above the largest constant
-abbrev pub over-constant : ℕ
-over-constant = suc largest-constant
+-- what stands for every number above the largest numeral that may come to an allowed constant
+abbrev pub over-numeral : ℕ
+over-numeral = suc largest-numeral
 
--- n where it is no larger than the largest constant: what the code keeps of a numeral's value
+-- n where it is no larger than that numeral: what the code keeps of a numeral's value
 unfoldable pub clamped : ℕ → ℕ
-clamped n = cond (leb n largest-constant) n over-constant
+clamped n = cond (leb n largest-numeral) n over-numeral
 
 -- the first n bytes are there in both, and equal
 unfoldable pub agree : ℕ → List ℕ → List ℕ → Bool

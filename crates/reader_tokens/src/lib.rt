@@ -5,10 +5,10 @@ ghost use mathlib.Core.List.{map, flatten};
 ghost use Prim.Native.Nat.{_+_, _-_, _*_, _≤_, _<_};
 ghost use lib.ListN.{length, getD, drop};
 ghost use Rattle.reader_tokens.specs.Scan.{member, is-space, is-letter, is-digit, is-part, past, with-digit};
-ghost use Rattle.reader_tokens.specs.Scan.{numeral-value, over-constant, clamped, agree, same};
+ghost use Rattle.reader_tokens.specs.Scan.{numeral-value, over-numeral, clamped, agree, same};
 ghost use Rattle.reader_tokens.specs.Tokens.{is-in, words, word-kind, is-single, is-pair, mark-kind};
 ghost use Rattle.reader_tokens.specs.Tokens.{mark-at, word-at, token-from, token-at};
-use limits::LARGEST_CONSTANT;
+use limits::LARGEST_NUMERAL;
 
 // How many values a byte has.
 const BYTE_VALUES: usize = 256;
@@ -81,8 +81,8 @@ const SHORTEST_WORD: usize = 4;
 
 const DIGIT_ZERO: usize = b'0' as usize;
 
-// What `number_at` answers for every number above the largest constant.
-pub const OVER_CONSTANT: usize = LARGEST_CONSTANT + 1;
+// What `number_at` answers for every number above the largest numeral.
+pub const OVER_NUMERAL: usize = LARGEST_NUMERAL + 1;
 
 // A token: its kind, the place of its first byte and the place after its last.
 pub struct Token {
@@ -357,20 +357,20 @@ pub fn token_at(s: &[u8], at: usize) -> Token
     token_from(s, p)
 }
 
-// The number v with the digit b after it, OVER_CONSTANT for any above the largest constant.
+// The number v with the digit b after it, OVER_NUMERAL for any above the largest numeral.
 fn with_digit(v: usize, b: u8) -> usize
-    requires { ⌜ (v ≤ over-constant) × (is-digit b ≡ true) ⌝ }
+    requires { ⌜ (v ≤ over-numeral) × (is-digit b ≡ true) ⌝ }
     ensures { λ r. ⌜ r ≡ clamped (with-digit v b) ⌝ }
 {
     let d = wide(b);
     let n = v * 10 + (d - DIGIT_ZERO);
-    if n <= LARGEST_CONSTANT {
+    if n <= LARGEST_NUMERAL {
         return n;
     }
-    OVER_CONSTANT
+    OVER_NUMERAL
 }
 
-// The number that the digits from p on are, OVER_CONSTANT for any above the largest constant.
+// The number that the digits from p on are, OVER_NUMERAL for any above the largest numeral.
 pub fn number_at(s: &[u8], p: usize) -> usize
     ensures { λ r. ⌜ r ≡ clamped (numeral-value 0 (drop p (now (s .entry)))) ⌝ }
 {

@@ -109,3 +109,7 @@ output-beside-tick state channel = record { code = 22; file = left-file; p = sta
 -- 23: a reachable state in which neither is possible (SPECIFICATION 12.9)
 abbrev pub neither-possible : ℕ → Refusal
 neither-possible state = record { code = 23; file = left-file; p = state; q = 0 }
+
+-- 24: a tick length that is not allowed (SPECIFICATION 4.7)
+abbrev pub tick-out-of-range : ℕ → Refusal
+tick-out-of-range period = record { code = 24; file = no-file; p = period; q = 0 }

@@ -3,7 +3,7 @@ use steps::Step;
 ghost use mathlib.Core.Path.{_≡_};
 ghost use Prim.Native.Nat.{_≤_, _<_};
 ghost use Rattle.limits.specs.Limits.{state-limit};
-ghost use Rattle.refusals.specs.Refusals.{in-file, text-too-long, misfit, name-too-long, declared-before, unknown-name, constant-too-large, too-many-items, other-mark, too-many-states, input-without-move, two-edges, unmatched-channel, keep-too-short, table-too-short, queue-too-short, other-table, start-not-safe, start-pair-not-set, pair-not-allowed, rule-broken, run-too-short, output-beside-tick, neither-possible};
+ghost use Rattle.refusals.specs.Refusals.{in-file, text-too-long, misfit, name-too-long, declared-before, unknown-name, constant-too-large, too-many-items, other-mark, too-many-states, input-without-move, two-edges, unmatched-channel, keep-too-short, table-too-short, queue-too-short, other-table, start-not-safe, start-pair-not-set, pair-not-allowed, rule-broken, run-too-short, output-beside-tick, neither-possible, tick-out-of-range};
 
 // The file that a refusal concerns: the left or only text, the right text, or none (SPECIFICATION 13.2).
 pub const LEFT_FILE: usize = 1;
@@ -12,7 +12,7 @@ pub const RIGHT_FILE: usize = 2;
 
 pub const NO_FILE: usize = 0;
 
-// `code` is 1 to 23; `file` is one of the marks above.
+// `code` is 1 to 24; `file` is one of the marks above.
 pub struct Refusal {
     pub code: usize,
     pub file: usize,
@@ -289,6 +289,17 @@ impl Refusal {
             code: 23,
             file: LEFT_FILE,
             p: state,
+            q: 0,
+        }
+    }
+
+    pub fn tick_out_of_range(period: usize) -> Refusal
+        ensures { λ r. ⌜ r ≡ tick-out-of-range period ⌝ }
+    {
+        Refusal {
+            code: 24,
+            file: NO_FILE,
+            p: period,
             q: 0,
         }
     }

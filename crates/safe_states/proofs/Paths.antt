@@ -75,41 +75,42 @@ module _ {t : Text} {n : ℕ} {moves holds keep : List ℕ} (R : Ready t n moves
     ready-found s r b q c f = rw (c, f ∙ ap (bit-at after) q ∙ packed-bit safe-packed (start-state t) start-in, e)
 
 -- the paths after the text is read and the slices are filled
-module _ (s k m h : List ℕ) (r : Reading) (m′ h′ : List ℕ) (e : loading r m′ h′ ≡ load-outcome s m h) where
-  pub safe-refused : (f : Refusal) → r .answer ≡ verdict.Refused f → refused (Refused f) k ≡ safe-outcome s k
+module _ (period : ℕ) (s k m h : List ℕ) (r : Reading) (m′ h′ : List ℕ)
+    (e : loading r m′ h′ ≡ load-outcome period s m h) where
+  pub safe-refused : (f : Refusal) → r .answer ≡ verdict.Refused f → refused (Refused f) k ≡ safe-outcome period s k
   unfolding safe-outcome answered
-  safe-refused f a = rw (answer-is s m h r m′ h′ e (verdict.Refused f) a)
+  safe-refused f a = rw (answer-is period s m h r m′ h′ e (verdict.Refused f) a)
 
   module _ (a : r .answer ≡ verdict.Accepted) where
-    outcome-is : safe-outcome s k ≡ kept-outcome (r .text) k
+    outcome-is : safe-outcome period s k ≡ kept-outcome (r .text) k
     unfolding safe-outcome answered
-    outcome-is = rw (answer-is s m h r m′ h′ e verdict.Accepted a, text-is s m h r m′ h′ e)
+    outcome-is = rw (answer-is period s m h r m′ h′ e verdict.Accepted a, text-is period s m h r m′ h′ e)
 
     -- keep is judged by the bytes that it needs
     module _ (need : ℕ) (n : need ≡ bytes-for (r .states)) where
       bytes-are : need ≡ bytes-for (state-count (r .text))
-      bytes-are = n ∙ ap bytes-for (states-are s m h r m′ h′ e a)
+      bytes-are = n ∙ ap bytes-for (states-are period s m h r m′ h′ e a)
 
       pub safe-short : length k < need → (f : Refusal) → f ≡ keep-too-short need
-          → refused (Refused f) k ≡ safe-outcome s k
+          → refused (Refused f) k ≡ safe-outcome period s k
       unfolding kept-outcome
       safe-short l f e =
           let q : ltb (length k) (bytes-for (state-count (r .text))) ≡ true =
           lt-ltb (length k) (bytes-for (state-count (r .text))) (rw bytes-are at l) in
           rw (outcome-is, e, bytes-are) (rw (q, kept-outcome))
 
-      pub safe-found : need ≤ length k → (o : Outcome) → o ≡ found-outcome (r .text) k → o ≡ safe-outcome s k
+      pub safe-found : need ≤ length k → (o : Outcome) → o ≡ found-outcome (r .text) k → o ≡ safe-outcome period s k
       unfolding kept-outcome
       safe-found l o f =
           let q : ltb (length k) (bytes-for (state-count (r .text))) ≡ false =
           le-ltb (length k) (bytes-for (state-count (r .text))) (rw bytes-are at l) in
           f ∙ rw outcome-is (rw (q, kept-outcome))
 
-      pub safe-ready : need ≤ length k → (m₀ : ℕ) → m₀ ≡ state-count (read-outcome s .text)
+      pub safe-ready : need ≤ length k → (m₀ : ℕ) → m₀ ≡ state-count (read-outcome period s .text)
           → Room m₀ (length m) (length h) → Ready (r .text) (r .states) m′ h′ k
       safe-ready p m₀ q l = record {
-        accepted = record-accepted s m h r m′ h′ e a;
-        count = states-are s m h r m′ h′ e a;
-        filled = slices-filled s m h r m′ h′ e a m₀ q l;
+        accepted = record-accepted period s m h r m′ h′ e a;
+        count = states-are period s m h r m′ h′ e a;
+        filled = slices-filled period s m h r m′ h′ e a m₀ q l;
         long = rw bytes-are at p;
       }

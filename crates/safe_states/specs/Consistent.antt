@@ -26,20 +26,20 @@ use Rattle.safe_states.specs.declared.SafeAnswer.the-variants.{Found}
 use Rattle.safe_states.specs.Outcome.{Outcome, found-outcome, kept-outcome, answered, safe-outcome}
 
 -- an accepted text and a keep that is long enough
-module _ (s k : List ℕ) (e : read-outcome s .answer ≡ verdict.Accepted)
-    (long : bytes-for (state-count (read-outcome s .text)) ≤ length k) where
+module _ (period : ℕ) (s k : List ℕ) (e : read-outcome period s .answer ≡ verdict.Accepted)
+    (long : bytes-for (state-count (read-outcome period s .text)) ≤ length k) where
   abbrev pub text : Text
-  text = read-outcome s .text
+  text = read-outcome period s .text
 
   abbrev pub accepted : Accepted text
-  accepted = read-accepted s e .accepted
+  accepted = read-accepted period s e .accepted
 
   -- the operation succeeds
-  pub succeeds : safe-outcome s k ≡ found-outcome text k
+  pub succeeds : safe-outcome period s k ≡ found-outcome text k
   unfolding safe-outcome answered kept-outcome
   succeeds =
-      let q : ltb (length k) (bytes-for (state-count (read-outcome s .text))) ≡ false =
-      le-ltb (length k) (bytes-for (state-count (read-outcome s .text))) long in
+      let q : ltb (length k) (bytes-for (state-count (read-outcome period s .text))) ≡ false =
+      le-ltb (length k) (bytes-for (state-count (read-outcome period s .text))) long in
       rw e (rw (q, kept-outcome))
 
   -- the start as the operation answers it is safe in the text's system
@@ -48,7 +48,7 @@ module _ (s k : List ℕ) (e : read-outcome s .answer ≡ verdict.Accepted)
   start-same = unfold system in ap (λ (X : List Bool). at X (start-state text)) (safe-states-same text accepted)
 
   -- some implementation satisfies the text exactly when the operation says that the start is safe
-  pub consistent-iff : ((n : ℕ) × (safe-outcome s k .answer ≡ Found n true)) ↔
+  pub consistent-iff : ((n : ℕ) × (safe-outcome period s k .answer ≡ Found n true)) ↔
       ((I : Implementation (signature text)) × Satisfies I (Meaning text accepted))
   unfolding found-outcome
   consistent-iff = (

@@ -37,11 +37,13 @@ unfoldable pub kept-outcome : Text → List ℕ → Outcome
 kept-outcome t k = elim (ltb (length k) (bytes-for (state-count t)))
     [ true ↦ refused (Refused (keep-too-short (bytes-for (state-count t)))) k | false ↦ found-outcome t k ]
 
--- codes 1 to 11 come before it (SPECIFICATION 13.4)
+-- codes 24 and 1 to 11 come before it (SPECIFICATION 13.4)
 unfoldable pub answered : Verdict → Text → List ℕ → Outcome
 answered verdict.Accepted t k = kept-outcome t k
 answered (verdict.Refused f) t k = refused (Refused f) k
 
--- the operation on a text by its bytes (SPECIFICATION 12.2)
-unfoldable pub safe-outcome : List ℕ → List ℕ → Outcome
-safe-outcome s k = answered (read-outcome s .answer) (read-outcome s .text) k
+-- at one tick length, `period` (SPECIFICATION 4.7)
+module _ (period : ℕ) where
+  -- the operation on a text by its bytes (SPECIFICATION 12.2)
+  unfoldable pub safe-outcome : List ℕ → List ℕ → Outcome
+  safe-outcome s k = answered (read-outcome period s .answer) (read-outcome period s .text) k

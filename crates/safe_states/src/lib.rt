@@ -33,15 +33,16 @@ fn found(t: Text, n: usize, moves: &[u16], holds: &[u8], keep: &mut [u8]) -> Saf
 
 // The operation with slices that have room for the text, which is parsed and measured (SPECIFICATION 12.2).
 pub fn safe_in(
+    period: usize,
     text: &[u8],
     m: Measured,
     moves: &mut [u16],
     holds: &mut [u8],
     keep: &mut [u8],
 ) -> SafeAnswer
-    requires { ⌜ Measures (now text) m × Room (m .states) (length (now moves)) (length (now holds)) ⌝ }
+    requires { ⌜ Measures period (now text) m × Room (m .states) (length (now moves)) (length (now holds)) ⌝ }
     ensures { λ r. ⌜ _≡_ {A = Outcome} (record { answer = r; keep = now (keep .exit) })
-        (safe-outcome (now (text .entry)) (now (keep .entry))) ⌝ }
+        (safe-outcome period (now (text .entry)) (now (keep .entry))) ⌝ }
 {
     let reading = clocks_read::judge(m, moves, holds);
     let answer = reading.answer;

@@ -1,13 +1,14 @@
-// Reads texts from standard input, a `#` between two, and writes what reading and the safe-state operation give for
-// each. What is expected comes from tests/make_cases.py, by an independent reading of docs/SPECIFICATION.md.
+// Reads texts from standard input, each after its tick length in decimal and a `#`, with a `#` between two cases, and
+// writes what reading and the safe-state operation give for each. What is expected comes from tests/make_cases.py, by
+// an independent reading of docs/SPECIFICATION.md.
 use refusals::Refusal;
 use refusals::Verdict;
 use safe_states::SafeAnswer;
-ghost use Prim.Native.Nat.{_≤_, _<_};
+ghost use Prim.Native.Nat.{_≤_};
 ghost use lib.ListN.{length};
 
-// `#`, the byte between two texts.
-const BETWEEN: u8 = 35;
+// The byte after a tick length and after a text.
+const BETWEEN: u8 = b'#';
 
 // What a keep is filled with before the operation, so that bytes that it leaves alone are seen.
 const FILL: u8 = 170;
@@ -29,8 +30,8 @@ fn refusal(f: Refusal) {
 }
 
 // What reading gives: the refusal, or the state count.
-fn show_read(text: &[u8]) {
-    let r = operations::read(text);
+fn show_read(period: usize, text: &[u8]) {
+    let r = operations::read(period, text);
     let a = r.answer;
     match a {
         Verdict::Refused(f) => refusal(f),
@@ -62,8 +63,8 @@ fn show_bytes(s: &[u8], n: usize)
 }
 
 // What the safe-state operation gives.
-fn show_safe(text: &[u8], keep: &mut [u8]) {
-    let a = operations::safe_states(text, keep);
+fn show_safe(period: usize, text: &[u8], keep: &mut [u8]) {
+    let a = operations::safe_states(period, text, keep);
     match a {
         SafeAnswer::Refused(f) => refusal(f),
         SafeAnswer::Found(count, start) => {
@@ -75,56 +76,33 @@ fn show_safe(text: &[u8], keep: &mut [u8]) {
 }
 
 // One text: reading, the operation with a keep of one byte, and with one with room for every text, whose first bytes are shown.
-fn show(text: &[u8]) {
-    show_read(text);
+fn show(period: usize, text: &[u8]) {
+    show_read(period, text);
     io::write_all(1, b" |");
     let mut short = [FILL; 1];
-    show_safe(text, &mut short);
+    show_safe(period, text, &mut short);
     show_bytes(&short, 1);
     io::write_all(1, b" |");
     let mut keep = [FILL; limits::KEEP_LIMIT];
-    show_safe(text, &mut keep);
+    show_safe(period, text, &mut keep);
     show_bytes(&keep, SHOWN);
     io::write_all(1, b"\n");
-}
-
-// The end of the text that starts at `from`: the next `#`, or the end of the input.
-fn text_end(s: &[u8], from: usize) -> usize
-    requires { ⌜ from ≤ length (now s) ⌝ }
-    ensures { λ r. ⌜ (from ≤ r) × (r ≤ length (now (s .entry))) ⌝ }
-{
-    let mut at = from;
-    while at < s.len() {
-        if s[at] == BETWEEN {
-            return at;
-        }
-        at += 1;
-    }
-    at
-}
-
-// Where the next text starts.
-fn text_start(s: &[u8], from: usize, end: usize) -> usize
-    requires { ⌜ (from < length (now s)) × (from ≤ end) × (end ≤ length (now s)) ⌝ }
-    ensures { λ r. ⌜ (from < r) × (r ≤ length (now (s .entry))) ⌝ }
-{
-    if end < s.len() {
-        return end + 1;
-    }
-    end
 }
 
 fn show_all(s: &[u8]) {
     let mut from: usize = 0;
     while from < s.len() {
-        let end = text_end(s, from);
-        show(&s[from..end]);
-        from = text_start(s, from, end);
+        let middle = test_input::end_of(s, from, BETWEEN);
+        let start = test_input::after(s, from, middle);
+        let end = test_input::end_of(s, start, BETWEEN);
+        let period = test_input::decimal(&s[from..middle]);
+        show(period, &s[start..end]);
+        from = test_input::after(s, from, end);
     }
 }
 
 fn main() {
-    let mut buf = io::large_buffer();
+    let mut buf = test_input::room();
     let n = io::read_full(0, &mut buf);
     show_all(&buf[..n]);
 }

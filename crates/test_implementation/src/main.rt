@@ -1,5 +1,6 @@
-// Reads texts from standard input, a `#` between two, and writes for each what the implementation check answers and whether
-// the enumerator says the same (SPECIFICATION 12.9). What is expected comes from tests/make_cases.py, by an independent
+// Reads texts from standard input, each after its tick length in decimal and a `#`, with a `#` between two cases, and
+// writes for each what the implementation check answers and whether the enumerator says the same (SPECIFICATION 12.9).
+// What is expected comes from tests/make_cases.py, by an independent
 // reading of docs/SPECIFICATION.md.
 use enumerator::moves::ACCEPTED;
 use enumerator::moves::accepted;
@@ -8,7 +9,7 @@ use libc::STDOUT_FILENO;
 use refusals::Refusal;
 use refusals::Verdict;
 
-// The byte between two texts.
+// The byte after a tick length and after a text.
 const BETWEEN: u8 = b'#';
 
 fn put(s: &[u8]) {
@@ -41,44 +42,35 @@ fn put_agreement(is_same: bool) {
 }
 
 // What the operation answers.
-fn answer(text: &[u8]) -> Refusal {
-    let v = operations::implementation(text);
+fn answer(period: usize, text: &[u8]) -> Refusal {
+    let v = operations::implementation(period, text);
     match v {
         Verdict::Refused(f) => f,
         Verdict::Accepted => accepted(),
     }
 }
 
-fn show(text: &[u8]) {
-    let got = answer(text);
-    let expected = enumerator::reached::implementation(enumerator::safe::read(text));
+fn show(period: usize, text: &[u8]) {
+    let got = answer(period, text);
+    let expected = enumerator::reached::implementation(enumerator::safe::read(period, text));
     put_answer(got);
     put_agreement(same(expected, got));
 }
 
-// The text from a place up to another.
-fn show_part(s: &[u8], from: usize, end: usize) {
-    if from <= end && end <= s.len() {
-        show(&s[from..end]);
-    }
-}
-
-// The texts before each `#`, and what follows the last one, if anything does.
 fn show_all(s: &[u8]) {
     let mut from: usize = 0;
-    for at in 0..s.len() {
-        if s[at] == BETWEEN {
-            show_part(s, from, at);
-            from = at + 1;
-        }
-    }
-    if from < s.len() {
-        show_part(s, from, s.len());
+    while from < s.len() {
+        let middle = test_input::end_of(s, from, BETWEEN);
+        let start = test_input::after(s, from, middle);
+        let end = test_input::end_of(s, start, BETWEEN);
+        let period = test_input::decimal(&s[from..middle]);
+        show(period, &s[start..end]);
+        from = test_input::after(s, from, end);
     }
 }
 
 fn main() {
-    let mut buf = io::large_buffer();
+    let mut buf = test_input::room();
     let n = io::read_full(libc::STDIN_FILENO, &mut buf);
     show_all(&buf[..n]);
 }

@@ -1,10 +1,10 @@
 // Runs the calls of data/cases through five of the operations and prints each answer with everything that is lent.
 // tests/make_cases.py writes the calls and, from an independent reading of docs/SPECIFICATION.md, the expected output.
-//
-// A record of the file is a letter, six numbers and bytes. `T` gives the two texts of the calls that follow: the length of
-// the left and its length with spaces after it, the same for the right, and their bytes. The calls are `R` reading and `S`
-// safe states (of the left), `D` search, `C` check and `W` widest table, with the lengths of keep, of the table to write, of
-// back, line and run, and of the given table, whose bytes follow.
+// A record of the file is a letter, six numbers, a word and bytes. `T` gives the two texts of the calls that follow:
+// the length of the left and its length with spaces after it, the same for the right, and their bytes. The calls are
+// `R` reading and `S` safe states (of the left), `D` search, `C` check and `W` widest table, with the lengths of keep,
+// of the table to write, of back, line and run, and of the given table, whose bytes follow. A call's word is the tick
+// length.
 use libc::STDOUT_FILENO;
 use refusals::Refusal;
 use refusals::Verdict;
@@ -26,12 +26,22 @@ const SEARCH: u8 = b'D';
 
 const CHECK: u8 = b'C';
 
-// The bytes of a number, lowest first, and those before a record's own bytes: a letter and six numbers.
+// The bytes of a number, lowest first; where a record's word begins, after a letter and six numbers; and where its own
+// bytes do, after the eight of the word.
 const NUMBER_BYTES: usize = 3;
 
-const HEAD_BYTES: usize = 19;
+const WORD_PLACE: usize = 19;
+
+const HEAD_BYTES: usize = 27;
 
 const BYTE_VALUES: usize = 256;
+
+// The values of a number, and those of half a word, which is a number and one byte more.
+const NUMBER_VALUES: usize = 16777216;
+
+const HALF_BYTES: usize = 4;
+
+const HALF_VALUES: usize = 4294967296;
 
 // The code after which back and line may be changed (SPECIFICATION 13.5).
 const RUN_TOO_SHORT: usize = 21;
@@ -60,8 +70,9 @@ const FACTOR: usize = 257;
 
 const MODULUS: usize = 1000000007;
 
-// The lengths that a call gives.
+// The lengths that a call gives: that of a tick, and those of the slices.
 struct Lengths {
+    period: usize,
     keep: usize,
     table: usize,
     back: usize,
@@ -225,9 +236,9 @@ fn put_flag(b: bool) {
     put_number(0);
 }
 
-fn read_call(text: &[u8]) {
+fn read_call(period: usize, text: &[u8]) {
     put(b"R");
-    let r = operations::read(text);
+    let r = operations::read(period, text);
     let a = r.answer;
     match a {
         Verdict::Refused(f) => put_refused(f),
@@ -235,9 +246,9 @@ fn read_call(text: &[u8]) {
     }
 }
 
-fn safe_call(text: &[u8], keep: &mut [u8]) {
+fn safe_call(period: usize, text: &[u8], keep: &mut [u8]) {
     put(b"S");
-    let a = operations::safe_states(text, keep);
+    let a = operations::safe_states(period, text, keep);
     match a {
         SafeAnswer::Refused(f) => put_refused(f),
         SafeAnswer::Found(count, start) => {
@@ -263,6 +274,7 @@ fn put_searched(answer: SearchAnswer) -> bool {
 }
 
 fn search_call(
+    period: usize,
     left: &[u8],
     right: &[u8],
     keep: &mut [u8],
@@ -271,7 +283,7 @@ fn search_call(
     run: &mut [u32],
 ) {
     put(b"D");
-    let answer = operations::search(left, right, keep, back, line, run);
+    let answer = operations::search(period, left, right, keep, back, line, run);
     let kept = put_searched(answer);
     put_keep(keep);
     put(b" run ");
@@ -282,9 +294,9 @@ fn search_call(
     }
 }
 
-fn check_call(left: &[u8], right: &[u8], keep: &mut [u8], table: &[u8]) {
+fn check_call(period: usize, left: &[u8], right: &[u8], keep: &mut [u8], table: &[u8]) {
     put(b"C");
-    let answer = operations::check(left, right, keep, table);
+    let answer = operations::check(period, left, right, keep, table);
     match answer {
         CheckAnswer::Refused(f) => put_refused(f),
         CheckAnswer::Accepted(count) => put_done(count),
@@ -292,9 +304,9 @@ fn check_call(left: &[u8], right: &[u8], keep: &mut [u8], table: &[u8]) {
     put_keep(keep);
 }
 
-fn widest_call(left: &[u8], right: &[u8], keep: &mut [u8], table: &mut [u8]) {
+fn widest_call(period: usize, left: &[u8], right: &[u8], keep: &mut [u8], table: &mut [u8]) {
     put(b"W");
-    let answer = operations::widest(left, right, keep, table);
+    let answer = operations::widest(period, left, right, keep, table);
     match answer {
         WidestAnswer::Refused(f) => put_refused(f),
         WidestAnswer::Made(count, start) => {
@@ -338,6 +350,7 @@ fn search_parts(
         return;
     }
     search_call(
+        l.period,
         left,
         right,
         keep,
@@ -354,17 +367,18 @@ fn search_entries(left: &[u8], right: &[u8], l: Lengths, keep: &mut [u8]) {
     search_parts(left, right, l, keep, &mut back, &mut line, &mut run);
 }
 
-fn widest_part(left: &[u8], right: &[u8], n: usize, keep: &mut [u8], table: &mut [u8]) {
+fn widest_part(left: &[u8], right: &[u8], l: Lengths, keep: &mut [u8], table: &mut [u8]) {
     let a: usize = 0;
+    let n = l.table;
     if table.len() < n {
         return;
     }
-    widest_call(left, right, keep, &mut table[a..n]);
+    widest_call(l.period, left, right, keep, &mut table[a..n]);
 }
 
-fn widest_bytes(left: &[u8], right: &[u8], n: usize, keep: &mut [u8]) {
+fn widest_bytes(left: &[u8], right: &[u8], l: Lengths, keep: &mut [u8]) {
     let mut table = [LENT_BYTE; TABLE_ROOM];
-    widest_part(left, right, n, keep, &mut table);
+    widest_part(left, right, l, keep, &mut table);
 }
 
 fn two_texts_call(
@@ -380,19 +394,19 @@ fn two_texts_call(
         return;
     }
     if letter == CHECK {
-        check_call(left, right, keep, given);
+        check_call(l.period, left, right, keep, given);
         return;
     }
-    widest_bytes(left, right, l.table, keep);
+    widest_bytes(left, right, l, keep);
 }
 
 fn call(letter: u8, left: &[u8], right: &[u8], given: &[u8], l: Lengths, keep: &mut [u8]) {
     if letter == READ {
-        read_call(left);
+        read_call(l.period, left);
         return;
     }
     if letter == SAFE {
-        safe_call(left, keep);
+        safe_call(l.period, left, keep);
         return;
     }
     two_texts_call(letter, left, right, given, l, keep);
@@ -418,7 +432,7 @@ fn byte_at(s: &[u8], at: usize) -> u8 {
 
 // A number of three bytes, lowest first.
 fn number_at(s: &[u8], at: usize) -> usize
-    requires { ⌜ at < 524288 + 19 ⌝ }
+    requires { ⌜ at < 524288 + 27 ⌝ }
     ensures { λ r. ⌜ r < 16777216 ⌝ }
 {
     let low = wide(byte_at(s, at));
@@ -435,11 +449,31 @@ fn number_of(s: &[u8], at: usize, i: usize) -> usize
     number_at(s, at + 1 + NUMBER_BYTES * i)
 }
 
+// Half a word, lowest byte first.
+fn half_at(s: &[u8], at: usize) -> usize
+    requires { ⌜ at < 524288 + 27 ⌝ }
+    ensures { λ r. ⌜ r < 4294967296 ⌝ }
+{
+    let low = number_at(s, at);
+    let high = wide(byte_at(s, at + NUMBER_BYTES));
+    low + NUMBER_VALUES * high
+}
+
+// The word of the record at a place, lowest byte first.
+fn word_of(s: &[u8], at: usize) -> usize
+    requires { ⌜ at < 524288 ⌝ }
+{
+    let low = half_at(s, at + WORD_PLACE);
+    let high = half_at(s, at + WORD_PLACE + HALF_BYTES);
+    low + HALF_VALUES * high
+}
+
 fn lengths_at(s: &[u8], at: usize) -> Lengths
     requires { ⌜ at < 524288 ⌝ }
     ensures { λ l. ⌜ l .given < 16777216 ⌝ }
 {
     Lengths {
+        period: word_of(s, at),
         keep: number_of(s, at, 0),
         table: number_of(s, at, 1),
         back: number_of(s, at, 2),

@@ -1,5 +1,5 @@
-// Small random texts and pairs of them through the six operations, compared with the plain enumerator: the answers and
-// everything that is lent. Prints one line: the calls by kind of answer, and the differences, which are 0.
+// Small random texts and pairs of them through the six operations at random tick lengths, compared with the plain enumerator:
+// the answers and everything that is lent. Prints one line: the calls by kind of answer, and the differences, which are 0.
 use enumerator::moves::ACCEPTED;
 use libc::STDOUT_FILENO;
 use limits::LARGEST_TEXT;
@@ -8,6 +8,7 @@ use random_calls::DIFFERENCES;
 use random_calls::IMPLEMENTATIONS;
 use random_calls::LEFT_OUT;
 use random_calls::NO_DEPARTURE;
+use random_calls::ROUNDED;
 use random_calls::TALLY;
 use random_calls::WITH_START;
 use random_texts::Pen;
@@ -28,7 +29,7 @@ const DAMAGED: usize = 16;
 
 const OTHER: usize = 3;
 
-const LONG: usize = 256;
+const LONG: usize = 128;
 
 // Parts of a seed.
 const LEFT: usize = 1;
@@ -40,6 +41,8 @@ const OTHERS: usize = 3;
 const DAMAGES: usize = 4;
 
 const LONGS: usize = 5;
+
+const PERIODS: usize = 6;
 
 fn is_one_of(seed: u32, what: usize, n: usize) -> bool {
     random_texts::pick(seed, what, 0, 0, n) == 0
@@ -57,49 +60,78 @@ fn write_text(buf: &mut [u8], g: Shape) -> Pen {
     p
 }
 
-fn both_orders(left: &[u8], right: &[u8], seed: u32, tally: &mut [usize]) {
-    random_calls::all_cases(left, right, seed, &mut *tally);
-    random_calls::all_cases(right, left, seed, tally);
+fn both_orders(period: usize, left: &[u8], right: &[u8], seed: u32, tally: &mut [usize]) {
+    random_calls::all_cases(period, left, right, seed, &mut *tally);
+    random_calls::all_cases(period, right, left, seed, tally);
 }
 
 // A text beside one that is a byte too long (SPECIFICATION 4.3).
-fn long_cases(text: &[u8], seed: u32, tally: &mut [usize]) {
-    if !is_one_of(seed, LONGS, LONG) {
-        return;
-    }
+fn long_beside(period: usize, text: &[u8], seed: u32, tally: &mut [usize]) {
     let long = io::large_buffer();
     let a: usize = 0;
     let n = LARGEST_TEXT + 1;
-    both_orders(text, &long[a..n], seed, tally);
+    both_orders(period, text, &long[a..n], seed, tally);
+}
+
+// At a tick length, and at one that is refused before that (SPECIFICATION 13.3).
+fn long_cases(period: usize, text: &[u8], seed: u32, tally: &mut [usize]) {
+    if !is_one_of(seed, LONGS, LONG) {
+        return;
+    }
+    long_beside(period, text, seed, &mut *tally);
+    long_beside(random_texts::length_out_of_range(seed), text, seed, tally);
+}
+
+// The same text in ticks beside one that is not damaged.
+fn ticks_beside(text: &[u8], p: Pen, g: Shape, tally: &mut [usize]) {
+    if is_damaged(g) {
+        return;
+    }
+    let mut ticks = [0u8; LARGEST_TEXT];
+    let q = random_texts::text(&mut ticks, random_texts::in_ticks(g));
+    let a: usize = 0;
+    let n = q.at;
+    if n <= ticks.len() {
+        random_calls::rounding_case(g, text, p, &ticks[a..n], q, tally);
+    }
 }
 
 // Reading of a text that is written in the first bytes of a buffer.
-fn read_text(buf: &[u8], p: Pen, g: Shape, tally: &mut [usize]) {
+fn read_text(period: usize, buf: &[u8], p: Pen, g: Shape, tally: &mut [usize]) {
     let a: usize = 0;
     let n = p.at;
     if n <= buf.len() {
-        random_calls::read_case(&buf[a..n], g, p, is_damaged(g), tally);
+        random_calls::read_case(period, &buf[a..n], g, p, is_damaged(g), &mut *tally);
+        ticks_beside(&buf[a..n], p, g, tally);
     }
 }
 
 // All operations on two texts that are so written.
-fn two_texts(left: &[u8], n: usize, right: &[u8], m: usize, seed: u32, tally: &mut [usize]) {
+fn two_texts(
+    period: usize,
+    left: &[u8],
+    n: usize,
+    right: &[u8],
+    m: usize,
+    seed: u32,
+    tally: &mut [usize],
+) {
     let a: usize = 0;
     if n <= left.len() && m <= right.len() {
-        random_calls::all_cases(&left[a..n], &right[a..m], seed, &mut *tally);
-        long_cases(&left[a..n], seed, tally);
+        random_calls::all_cases(period, &left[a..n], &right[a..m], seed, &mut *tally);
+        long_cases(period, &left[a..n], seed, tally);
     }
 }
 
 // The texts of two shapes.
-fn text_cases(g: Shape, h: Shape, seed: u32, tally: &mut [usize]) {
+fn text_cases(period: usize, g: Shape, h: Shape, seed: u32, tally: &mut [usize]) {
     let mut left = [0u8; LARGEST_TEXT];
     let mut right = [0u8; LARGEST_TEXT];
     let p = write_text(&mut left, g);
     let q = write_text(&mut right, h);
-    read_text(&left, p, g, &mut *tally);
-    read_text(&right, q, h, &mut *tally);
-    two_texts(&left, p.at, &right, q.at, seed, tally);
+    read_text(period, &left, p, g, &mut *tally);
+    read_text(period, &right, q, h, &mut *tally);
+    two_texts(period, &left, p.at, &right, q.at, seed, tally);
 }
 
 // The right text mostly says the same as the left, with one change.
@@ -109,9 +141,12 @@ fn one_case(i: usize, tally: &mut [usize]) {
     if is_one_of(seed, OTHERS, OTHER) {
         other = random_texts::part(seed, OTHERS);
     }
-    let left = random_texts::shape_of(seed, seed, random_texts::part(seed, LEFT), LEFT_CHANGES);
-    let right = random_texts::shape_of(seed, other, random_texts::part(seed, RIGHT), RIGHT_CHANGES);
-    text_cases(left, right, seed, tally);
+    let period = random_texts::tick_length(random_texts::part(seed, PERIODS));
+    let gap = random_texts::part(seed, LEFT);
+    let gap_right = random_texts::part(seed, RIGHT);
+    let left = random_texts::shape_of(period, seed, seed, gap, LEFT_CHANGES);
+    let right = random_texts::shape_of(period, seed, other, gap_right, RIGHT_CHANGES);
+    text_cases(period, left, right, seed, tally);
 }
 
 fn run_cases(tally: &mut [usize]) {
@@ -140,17 +175,22 @@ fn put_codes(tally: &[usize]) {
     }
 }
 
+fn put_line(tally: &[usize]) {
+    put_entry(b"differences ", tally, DIFFERENCES);
+    put_entry(b", departures ", tally, DEPARTURES);
+    put_entry(b", none ", tally, NO_DEPARTURE);
+    put_entry(b", start pairs ", tally, WITH_START);
+    put_entry(b", implementations ", tally, IMPLEMENTATIONS);
+    put_entry(b", rounded ", tally, ROUNDED);
+    put_entry(b", left out ", tally, LEFT_OUT);
+    put_entry(b", accepted ", tally, ACCEPTED);
+    programs::put(b", refused");
+    put_codes(tally);
+    programs::put(b"\n");
+}
+
 fn main() {
     let mut tally = [0usize; TALLY];
     run_cases(&mut tally);
-    put_entry(b"differences ", &tally, DIFFERENCES);
-    put_entry(b", departures ", &tally, DEPARTURES);
-    put_entry(b", none ", &tally, NO_DEPARTURE);
-    put_entry(b", start pairs ", &tally, WITH_START);
-    put_entry(b", implementations ", &tally, IMPLEMENTATIONS);
-    put_entry(b", left out ", &tally, LEFT_OUT);
-    put_entry(b", accepted ", &tally, ACCEPTED);
-    programs::put(b", refused");
-    put_codes(&tally);
-    programs::put(b"\n");
+    put_line(&tally);
 }

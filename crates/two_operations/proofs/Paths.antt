@@ -22,29 +22,29 @@ use Rattle.tables.specs.Outcome.{Checked, check-refused, check-systems, Widened
 use Rattle.tables.specs.Slices.{Checks, Widens}
 use Rattle.two_operations.specs.Outcome.{search-outcome, check-outcome, widest-outcome}
 
-module _ (left right lm rm lh rh : List ℕ) (t : TwoTexts) (O : Loads left right lm rm lh rh t) where
-  -- an outcome by codes 1 to 12, where they refuse
-  by-refusal : {X : Type 0} (refused : Refusal → X) (accepted : none ≡ two-judged left right → X) (r : Refusal)
-      → t .answer ≡ verdict.Refused r → refused r ≡ judged-by (two-judged left right) refused accepted
+module _ (period : ℕ) (left right lm rm lh rh : List ℕ) (t : TwoTexts) (O : Loads period left right lm rm lh rh t) where
+  -- an outcome by codes 24 and 1 to 12, where they refuse
+  by-refusal : {X : Type 0} (refused : Refusal → X) (accepted : none ≡ two-judged period left right → X) (r : Refusal)
+      → t .answer ≡ verdict.Refused r → refused r ≡ judged-by (two-judged period left right) refused accepted
   unfolding refusal-in
   by-refusal refused accepted r e =
-      sym (judged-by-some (two-judged left right) refused accepted r (O .judged ∙ ap refusal-in e))
+      sym (judged-by-some (two-judged period left right) refused accepted r (O .judged ∙ ap refusal-in e))
 
   module _ (e : t .answer ≡ verdict.Accepted) where
-    nothing-found : none ≡ two-judged left right
+    nothing-found : none ≡ two-judged period left right
     unfolding refusal-in
     nothing-found = sym (O .judged ∙ ap refusal-in e)
 
-    abbrev both : Compared left right
-    both = compared left right nothing-found
+    abbrev both : Compared period left right
+    both = compared period left right nothing-found
 
-    loaded : Loaded both lm rm lh rh t
+    loaded : Loaded period both lm rm lh rh t
     loaded = O .loaded both e
 
     -- and where they find nothing
-    by-texts : {X : Type 0} (refused : Refusal → X) (accepted : none ≡ two-judged left right → X)
-        → accepted nothing-found ≡ judged-by (two-judged left right) refused accepted
-    by-texts refused accepted = sym (judged-by-none (two-judged left right) refused accepted nothing-found)
+    by-texts : {X : Type 0} (refused : Refusal → X) (accepted : none ≡ two-judged period left right → X)
+        → accepted nothing-found ≡ judged-by (two-judged period left right) refused accepted
+    by-texts refused accepted = sym (judged-by-none (two-judged period left right) refused accepted nothing-found)
 
     -- the slices are ready for an operation on systems
     pub loaded-ready : Ready-two (t .sides) (t .inputs) lm rm lh
@@ -55,51 +55,58 @@ module _ (left right lm rm lh rh : List ℕ) (t : TwoTexts) (O : Loads left righ
 
   module _ (keep : List ℕ) (back line : ℕ) (run : List ℕ) where
     pub search-refused : (r : Refusal) → t .answer ≡ verdict.Refused r
-        → record { answer = found.Refused r; keep = keep; run = run } ≡ search-outcome left right keep back line run
+        → record { answer = found.Refused r; keep = keep; run = run }
+        ≡ search-outcome period left right keep back line run
     unfolding search-outcome
     search-refused r e =
         by-refusal (λ r. search.refused r keep run)
-        (λ e. search-systems (left-system (compared left right e)) (right-system (compared left right e)) keep back
+        (λ e. search-systems (left-system period (compared period left right e))
+        (right-system period (compared period left right e)) keep back
         line run) r e
 
     pub search-done : (e : t .answer ≡ verdict.Accepted) (o : Outcome)
         → Searches (t .sides) (t .inputs) lm rm lh rh keep back line run o
-        → o ≡ search-outcome left right keep back line run
+        → o ≡ search-outcome period left right keep back line run
     unfolding search-outcome
     search-done e o S =
-        S _ (left-system (both e)) (right-system (both e)) (loaded e)
+        S _ (left-system period (both e)) (right-system period (both e)) (loaded e)
         ∙ by-texts e (λ r. search.refused r keep run)
-        (λ e. search-systems (left-system (compared left right e)) (right-system (compared left right e)) keep back
+        (λ e. search-systems (left-system period (compared period left right e))
+        (right-system period (compared period left right e)) keep back
         line run)
 
   module _ (keep table : List ℕ) where
     pub check-refused-done : (r : Refusal) → t .answer ≡ verdict.Refused r
-        → record { answer = check.Refused r; keep = keep } ≡ check-outcome left right keep table
+        → record { answer = check.Refused r; keep = keep } ≡ check-outcome period left right keep table
     unfolding check-outcome
     check-refused-done r e =
         by-refusal (λ r. check-refused r keep)
-        (λ e. check-systems (left-system (compared left right e)) (right-system (compared left right e)) keep table) r e
+        (λ e. check-systems (left-system period (compared period left right e))
+        (right-system period (compared period left right e)) keep table) r e
 
     pub check-done : (e : t .answer ≡ verdict.Accepted) (o : Checked)
-        → Checks (t .sides) (t .inputs) lm rm lh rh keep table o → o ≡ check-outcome left right keep table
+        → Checks (t .sides) (t .inputs) lm rm lh rh keep table o → o ≡ check-outcome period left right keep table
     unfolding check-outcome
     check-done e o C =
-        C _ (left-system (both e)) (right-system (both e)) (loaded e)
+        C _ (left-system period (both e)) (right-system period (both e)) (loaded e)
         ∙ by-texts e (λ r. check-refused r keep)
-        (λ e. check-systems (left-system (compared left right e)) (right-system (compared left right e)) keep table)
+        (λ e. check-systems (left-system period (compared period left right e))
+        (right-system period (compared period left right e)) keep table)
 
     pub widest-refused-done : (r : Refusal) → t .answer ≡ verdict.Refused r
-        → record { answer = made.Refused r; keep = keep; table = table } ≡ widest-outcome left right keep table
+        → record { answer = made.Refused r; keep = keep; table = table } ≡ widest-outcome period left right keep table
     unfolding widest-outcome
     widest-refused-done r e =
         by-refusal (λ r. widest-refused r keep table)
-        (λ e. widest-systems (left-system (compared left right e)) (right-system (compared left right e)) keep table) r
+        (λ e. widest-systems (left-system period (compared period left right e))
+        (right-system period (compared period left right e)) keep table) r
         e
 
     pub widest-done : (e : t .answer ≡ verdict.Accepted) (o : Widened)
-        → Widens (t .sides) (t .inputs) lm rm lh rh keep table o → o ≡ widest-outcome left right keep table
+        → Widens (t .sides) (t .inputs) lm rm lh rh keep table o → o ≡ widest-outcome period left right keep table
     unfolding widest-outcome
     widest-done e o W =
-        W _ (left-system (both e)) (right-system (both e)) (loaded e)
+        W _ (left-system period (both e)) (right-system period (both e)) (loaded e)
         ∙ by-texts e (λ r. widest-refused r keep table)
-        (λ e. widest-systems (left-system (compared left right e)) (right-system (compared left right e)) keep table)
+        (λ e. widest-systems (left-system period (compared period left right e))
+        (right-system period (compared period left right e)) keep table)

@@ -1,5 +1,5 @@
 // The search, the check and the widest table of two texts, in slices that have room for both: the texts are judged by
-// codes 1 to 12 and become two systems, and the operation on systems does the rest.
+// codes 24 and 1 to 12 and become two systems, and the operation on systems does the rest.
 use refusals::Verdict;
 use search::SearchAnswer;
 use tables::CheckAnswer;
@@ -15,6 +15,7 @@ ghost use Rattle.two_operations.specs.Outcome.{search-outcome, check-out
 // A shortest departure; keep gets the left's safe states, back and line are scratch, run gets the steps
 // (SPECIFICATION 12.4).
 pub fn search(
+    period: usize,
     left: &[u8],
     right: &[u8],
     texts: MeasuredTexts,
@@ -27,14 +28,14 @@ pub fn search(
     line: &mut [u32],
     run: &mut [u32],
 ) -> SearchAnswer
-    requires { ⌜ Measures-two (now left) (now right) texts
+    requires { ⌜ Measures-two period (now left) (now right) texts
         × Rooms texts (length (now lm)) (length (now rm)) (length (now lh)) (length (now rh)) ⌝ }
     ensures { λ r. ⌜ (_≡_ {A = Outcome} (record { answer = r; keep = now (keep .exit); run = now (run .exit) })
-        (search-outcome (now (left .entry)) (now (right .entry)) (now (keep .entry)) (length (now (back .entry)))
+        (search-outcome period (now (left .entry)) (now (right .entry)) (now (keep .entry)) (length (now (back .entry)))
         (length (now (line .entry))) (now (run .entry))))
         × Scratch r (now (back .entry)) (now (back .exit)) (now (line .entry)) (now (line .exit)) ⌝ }
 {
-    let t = two_texts::load_two(left, right, texts, lm, rm, lh, rh);
+    let t = two_texts::load_two(period, left, right, texts, lm, rm, lh, rh);
     let answer = t.answer;
     match answer {
         Verdict::Refused(f) => SearchAnswer::Refused(f),
@@ -48,6 +49,7 @@ pub fn search(
 
 // The check of a given table; keep gets the left's safe states (SPECIFICATION 12.5).
 pub fn check(
+    period: usize,
     left: &[u8],
     right: &[u8],
     texts: MeasuredTexts,
@@ -58,12 +60,12 @@ pub fn check(
     keep: &mut [u8],
     table: &[u8],
 ) -> CheckAnswer
-    requires { ⌜ Measures-two (now left) (now right) texts
+    requires { ⌜ Measures-two period (now left) (now right) texts
         × Rooms texts (length (now lm)) (length (now rm)) (length (now lh)) (length (now rh)) ⌝ }
     ensures { λ r. ⌜ _≡_ {A = Checked} (record { answer = r; keep = now (keep .exit) })
-        (check-outcome (now (left .entry)) (now (right .entry)) (now (keep .entry)) (now (table .entry))) ⌝ }
+        (check-outcome period (now (left .entry)) (now (right .entry)) (now (keep .entry)) (now (table .entry))) ⌝ }
 {
-    let t = two_texts::load_two(left, right, texts, lm, rm, lh, rh);
+    let t = two_texts::load_two(period, left, right, texts, lm, rm, lh, rh);
     let answer = t.answer;
     match answer {
         Verdict::Refused(f) => CheckAnswer::Refused(f),
@@ -77,6 +79,7 @@ pub fn check(
 
 // The widest table; keep gets the left's safe states (SPECIFICATION 12.6).
 pub fn widest(
+    period: usize,
     left: &[u8],
     right: &[u8],
     texts: MeasuredTexts,
@@ -87,12 +90,12 @@ pub fn widest(
     keep: &mut [u8],
     table: &mut [u8],
 ) -> WidestAnswer
-    requires { ⌜ Measures-two (now left) (now right) texts
+    requires { ⌜ Measures-two period (now left) (now right) texts
         × Rooms texts (length (now lm)) (length (now rm)) (length (now lh)) (length (now rh)) ⌝ }
     ensures { λ r. ⌜ _≡_ {A = Widened} (record { answer = r; keep = now (keep .exit); table = now (table .exit) })
-        (widest-outcome (now (left .entry)) (now (right .entry)) (now (keep .entry)) (now (table .entry))) ⌝ }
+        (widest-outcome period (now (left .entry)) (now (right .entry)) (now (keep .entry)) (now (table .entry))) ⌝ }
 {
-    let t = two_texts::load_two(left, right, texts, lm, rm, lh, rh);
+    let t = two_texts::load_two(period, left, right, texts, lm, rm, lh, rh);
     let answer = t.answer;
     match answer {
         Verdict::Refused(f) => WidestAnswer::Refused(f),

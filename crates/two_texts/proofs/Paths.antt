@@ -1,6 +1,6 @@
 -- The ends of the code's paths.
 use mathlib.Core.Path.{_≡_, refl, sym, ap, _∙_}
-use mathlib.Core.Bool.{Bool}
+use mathlib.Core.Bool.{Bool, true, false}
 use mathlib.Core.Option.{none, some}
 use mathlib.Core.List.{List}
 use Prim.Native.Nat.{ℕ, _+_, _*_, _≤_, _<_}
@@ -8,7 +8,7 @@ use native.Mathlib.Omega.{arith}
 use lib.ListN.{length}
 use borrow.Author.Tests.{lt-ltb, le-ltb}
 use Rattle.refusals.specs.declared.Refusal.{Refusal}
-use Rattle.refusals.specs.Refusals.{in-file, text-too-long, left-file, right-file}
+use Rattle.refusals.specs.Refusals.{in-file, text-too-long, tick-out-of-range, left-file, right-file}
 use Rattle.systems.specs.Bools.{none-some}
 use Rattle.reader_record.specs.declared.Text.{Text}
 use Rattle.reader_record.specs.Formed.{Well-formed}
@@ -31,12 +31,12 @@ use Rattle.pairing.specs.Counts.{equally-many}
 use Rattle.refusals.specs.declared.Verdict.the-variants.{Accepted, Refused}
 use Rattle.move_tables.specs.declared.Sides.{Sides}
 use Rattle.two_texts.specs.declared.TwoTexts.{TwoTexts}
-use Rattle.two_texts.specs.Two.{text-of, too-long-in, refused-in, refused-pairing, or-else, texts-judged, channels-judged, two-judged, step-of}
+use Rattle.two_texts.specs.Two.{text-of, tick-judged, too-long-in, refused-in, refused-pairing, or-else, texts-judged, channels-judged, two-judged, step-of}
 use Rattle.two_texts.specs.Laws.{Judged, judged-none, named}
 use Rattle.two_texts.specs.Loaded.{refusal-in, Loads}
 use Rattle.two_texts.specs.Answers.{refused, sides-of, accepted as accepted-two, Sized, Accepted-reading, by-left, Paired, Right-loaded}
 use Rattle.two_texts.proofs.Tables.{table-fits, step-below, map-at, both-loaded}
-use Rattle.limits.specs.Limits.{largest-text, state-limit, step-limit}
+use Rattle.limits.specs.Limits.{largest-text, tick-allowed, state-limit, step-limit}
 
 -- a refusal is not an acceptance
 refused-never : {P : Type 0} (f : Refusal) (t : TwoTexts) → t ≡ refused f → t .answer ≡ Accepted → P
@@ -72,229 +72,243 @@ pub numbers-done : (l r : Text) (s : Sides) (i : List Bool) → s ≡ sides-of l
 unfolding accepted-two
 numbers-done l r s i p q = rw (p, q)
 
--- an accepted reading
-module _ (s : List ℕ) (r : Reading) (R : Accepted-reading s r) where
-  pub answer-is : read-outcome s .answer ≡ Accepted
-  answer-is = sym (ap (λ (x : Reading). x .answer) (R .same)) ∙ R .accepted
+module _ (period : ℕ) where
+  -- an accepted reading
+  module _ (s : List ℕ) (r : Reading) (R : Accepted-reading period s r) where
+    pub answer-is : read-outcome period s .answer ≡ Accepted
+    answer-is = sym (ap (λ (x : Reading). x .answer) (R .same)) ∙ R .accepted
 
-  pub text-is : r .text ≡ text-of s
-  text-is = ap (λ (x : Reading). x .text) (R .same)
+    pub text-is : r .text ≡ text-of period s
+    text-is = ap (λ (x : Reading). x .text) (R .same)
 
-  pub reading-accepted : accepted.Accepted (text-of s)
-  reading-accepted = read-accepted s answer-is .accepted
+    pub reading-accepted : accepted.Accepted (text-of period s)
+    reading-accepted = read-accepted period s answer-is .accepted
 
-  states-are : r .states ≡ state-count (text-of s)
-  states-are = ap (λ (x : Reading). x .states) (R .same) ∙ read-accepted s answer-is .states
+    states-are : r .states ≡ state-count (text-of period s)
+    states-are = ap (λ (x : Reading). x .states) (R .same) ∙ read-accepted period s answer-is .states
 
-  pub reading-formed : Well-formed (r .text)
-  reading-formed = rw text-is (reading-accepted .formed)
+    pub reading-formed : Well-formed (r .text)
+    reading-formed = rw text-is (reading-accepted .formed)
 
-  pub reading-sized : Sized (r .text) (r .states)
-  reading-sized = rw (text-is, states-are)
-      (record {
-        formed = reading-accepted .formed;
-        count = refl;
-        few = judgement-few (text-of s) (reading-accepted .clean);
-      })
-
--- the paths after the channels are paired
-module _ (left : List ℕ) (l : Reading) (right : List ℕ) (r : Reading) (L : Accepted-reading left l)
-    (R : Accepted-reading right r) (p : Pairing) (e : p ≡ pairing left (l .text) right (r .text)) where
-  pairing-is : p ≡ pairing left (text-of left) right (text-of right)
-  pairing-is = rw (text-is left l L, text-is right r R) at e
-
-  match-is : p .answer ≡ unmatched left (text-of left) right (text-of right)
-  unfolding pairing
-  match-is = ap (λ (x : Pairing). x .answer) pairing-is
-
-  map-is : p .map ≡ tab-from (step-of left right) 0 step-limit
-  unfolding pairing
-  map-is = ap (λ (x : Pairing). x .map) pairing-is
-
-  pub paired-refused : (d : List ℕ) (f : Refusal) (t : TwoTexts) → p .answer ≡ Unmatched f → t ≡ refused f
-      → Paired left right d d d t
-  unfolding refused-pairing
-  paired-refused d f t a q = record {
-    judged = rw (sym match-is ∙ a) (refusal-of f t q);
-    numbers = refused-never f t q;
-    moves = refused-never f t q;
-  }
-
-  module _ (a : p .answer ≡ Equal) where
-    both-judged : Judged left right
-    both-judged = record {
-      left-read = answer-is left l L;
-      right-read = answer-is right r R;
-      equal = sym match-is ∙ a;
-    }
-
-    many : text-of left .«channel_count» ≡ text-of right .«channel_count»
-    many = equally-many left (text-of left) right (text-of right) (named left (both-judged .left-read))
-        (named right (both-judged .right-read)) (both-judged .equal)
-
-    pub paired-renumbers : (d : List ℕ) → r .states * step-limit ≤ length d
-        → Renumbering (length d) (p .map) (r .states) (l .text .«channel_count» + 1)
-    paired-renumbers d k =
-        let wl = reading-accepted left l L in
-        let wr = reading-accepted right r R in
-        rw (map-is, states-are right r R, text-is left l L) (record {
-          few = omega (arith, wl .formed .channels);
-          rows = judgement-few (text-of right) (wr .clean);
-          long = table-fits (text-of right) (text-of left .«channel_count» + 1) (length d)
-              (omega (arith, wl .formed .channels)) (rw (states-are right r R) at k);
-          steps = λ c m. rw (map-at left right both-judged c (omega (arith, wl .formed .channels)))
-              (omega (arith, step-below left right both-judged c m, many));
+    pub reading-sized : Sized (r .text) (r .states)
+    reading-sized = rw (text-is, states-are)
+        (record {
+          formed = reading-accepted .formed;
+          count = refl;
+          few = judgement-few (text-of period s) (reading-accepted .clean);
         })
 
-    pub paired-accepted : (d after : List ℕ) (t : TwoTexts)
-        → after ≡ written (renumbered d (p .map) (l .text .«channel_count» + 1) (l .text .«channel_count» + 1))
-        (r .states * (l .text .«channel_count» + 1)) d
-        → t ≡ accepted-two (l .text) (r .text)
-        → Paired left right d d after t
-    unfolding refused-pairing by-left
-    paired-accepted d after t m q =
-        let n : t ≡ accepted-two (text-of left) (text-of right) = rw (text-is left l L, text-is right r R) at q in
-        record {
-          judged = rw (both-judged .equal) (numbers-none t (text-of left) (text-of right) n);
-          numbers = λ _. n;
-          moves = λ _. rw (sym many) (rw (map-is, states-are right r R, text-is left l L) at m);
+  -- the paths after the channels are paired
+  module _ (left : List ℕ) (l : Reading) (right : List ℕ) (r : Reading) (L : Accepted-reading period left l)
+      (R : Accepted-reading period right r) (p : Pairing) (e : p ≡ pairing left (l .text) right (r .text)) where
+    pairing-is : p ≡ pairing left (text-of period left) right (text-of period right)
+    pairing-is = rw (text-is left l L, text-is right r R) at e
+
+    match-is : p .answer ≡ unmatched left (text-of period left) right (text-of period right)
+    unfolding pairing
+    match-is = ap (λ (x : Pairing). x .answer) pairing-is
+
+    map-is : p .map ≡ tab-from (step-of period left right) 0 step-limit
+    unfolding pairing
+    map-is = ap (λ (x : Pairing). x .map) pairing-is
+
+    pub paired-refused : (d : List ℕ) (f : Refusal) (t : TwoTexts) → p .answer ≡ Unmatched f → t ≡ refused f
+        → Paired period left right d d d t
+    unfolding refused-pairing
+    paired-refused d f t a q = record {
+      judged = rw (sym match-is ∙ a) (refusal-of f t q);
+      numbers = refused-never f t q;
+      moves = refused-never f t q;
+    }
+
+    module _ (a : p .answer ≡ Equal) where
+      both-judged : Judged period left right
+      both-judged = record {
+        left-read = answer-is left l L;
+        right-read = answer-is right r R;
+        equal = sym match-is ∙ a;
+      }
+
+      many : text-of period left .«channel_count» ≡ text-of period right .«channel_count»
+      many = equally-many left (text-of period left) right (text-of period right)
+          (named period left (both-judged .left-read))
+          (named period right (both-judged .right-read)) (both-judged .equal)
+
+      pub paired-renumbers : (d : List ℕ) → r .states * step-limit ≤ length d
+          → Renumbering (length d) (p .map) (r .states) (l .text .«channel_count» + 1)
+      paired-renumbers d k =
+          let wl = reading-accepted left l L in
+          let wr = reading-accepted right r R in
+          rw (map-is, states-are right r R, text-is left l L) (record {
+            few = omega (arith, wl .formed .channels);
+            rows = judgement-few (text-of period right) (wr .clean);
+            long = table-fits (text-of period right) (text-of period left .«channel_count» + 1) (length d)
+                (omega (arith, wl .formed .channels)) (rw (states-are right r R) at k);
+            steps = λ c m. rw (map-at period left right both-judged c (omega (arith, wl .formed .channels)))
+                (omega (arith, step-below period left right both-judged c m, many));
+          })
+
+      pub paired-accepted : (d after : List ℕ) (t : TwoTexts)
+          → after ≡ written (renumbered d (p .map) (l .text .«channel_count» + 1) (l .text .«channel_count» + 1))
+          (r .states * (l .text .«channel_count» + 1)) d
+          → t ≡ accepted-two (l .text) (r .text)
+          → Paired period left right d d after t
+      unfolding refused-pairing by-left
+      paired-accepted d after t m q =
+          let n : t ≡ accepted-two (text-of period left) (text-of period right) = rw
+          (text-is left l L, text-is right r R) at q in
+          record {
+            judged = rw (both-judged .equal) (numbers-none t (text-of period left) (text-of period right) n);
+            numbers = λ _. n;
+            moves = λ _. rw (sym many) (rw (map-is, states-are right r R, text-is left l L) at m);
+          }
+
+  -- a text after loading
+  module _ (s m h : List ℕ) (r : Reading) (m′ h′ : List ℕ) (e : loading r m′ h′ ≡ load-outcome period s m h) where
+    pub reading-is : r ≡ read-outcome period s
+    reading-is = ap (λ (x : Loading). x .reading) e ∙ load-reading period s m h
+
+    loaded-refused : (file : ℕ) (f : Refusal) → r .answer ≡ Refused f
+        → refused-in file (read-outcome period s .answer) ≡ some (in-file file f)
+    unfolding refused-in
+    loaded-refused file f a = rw (sym (ap (λ (x : Reading). x .answer) reading-is) ∙ a)
+
+    module _ (a : r .answer ≡ Accepted) where
+      pub loaded-reading : Accepted-reading period s r
+      loaded-reading = record { same = reading-is; accepted = a }
+
+      loaded-none : (file : ℕ) → refused-in file (read-outcome period s .answer) ≡ none
+      unfolding refused-in
+      loaded-none file = rw (answer-is s r loaded-reading)
+
+      loaded-moves : m′ ≡ written (table-entry (text-of period s)) (table-size (text-of period s)) m
+      loaded-moves = ap (λ (x : Loading). x .moves) e ∙ load-moves period s m h (answer-is s r loaded-reading)
+
+      -- the slices have room for it
+      module _ (n : ℕ) (c : n ≡ state-count (text-of period s)) (k : Room n (length m) (length h)) where
+        loaded-few : n ≤ state-limit
+        loaded-few = omega (arith, c, judgement-few (text-of period s) (reading-accepted s r loaded-reading .clean))
+
+        loaded-most : state-count (text-of period s) * step-limit ≤ length m
+        loaded-most = rw (sym c) (k .table loaded-few)
+
+        loaded-room : table-size (text-of period s) ≤ length m
+        unfolding table-size
+        loaded-room =
+            table-fits (text-of period s) (text-of period s .«channel_count» + 1) (length m)
+            (omega (arith, reading-accepted s r loaded-reading .formed .channels)) loaded-most
+
+        loaded-filled : Filled (text-of period s) m′ h′
+        loaded-filled = record {
+          over = m;
+          room = loaded-room;
+          moves-are = loaded-moves;
+          under = h;
+          long = rw (sym c) (k .bits loaded-few);
+          holds-are = ap (λ (x : Loading). x .holds) e ∙ load-holds period s m h (answer-is s r loaded-reading);
         }
 
--- a text after loading
-module _ (s m h : List ℕ) (r : Reading) (m′ h′ : List ℕ) (e : loading r m′ h′ ≡ load-outcome s m h) where
-  pub reading-is : r ≡ read-outcome s
-  reading-is = ap (λ (x : Loading). x .reading) e ∙ load-reading s m h
+        -- the table keeps its length
+        loaded-long : state-count (text-of period s) * step-limit ≤ length m′
+        loaded-long =
+            let l = written-length (table-entry (text-of period s)) (table-size (text-of period s)) m loaded-room in
+            omega (arith, loaded-most, ap length loaded-moves, l)
 
-  loaded-refused : (file : ℕ) (f : Refusal) → r .answer ≡ Refused f
-      → refused-in file (read-outcome s .answer) ≡ some (in-file file f)
-  unfolding refused-in
-  loaded-refused file f a = rw (sym (ap (λ (x : Reading). x .answer) reading-is) ∙ a)
+        pub loaded-wide : r .states * step-limit ≤ length m′
+        loaded-wide = rw (states-are s r loaded-reading) loaded-long
 
-  module _ (a : r .answer ≡ Accepted) where
-    pub loaded-reading : Accepted-reading s r
-    loaded-reading = record { same = reading-is; accepted = a }
+  -- the paths after the right is loaded
+  module _ (left : List ℕ) (l : Reading) (L : Accepted-reading period left l) (right m h : List ℕ) (r : Reading)
+      (own h′ : List ℕ) (e : loading r own h′ ≡ load-outcome period right m h) where
+    pub right-refused : (d : List ℕ) (f g : Refusal) (t : TwoTexts) → r .answer ≡ Refused f
+        → g ≡ in-file right-file f → t ≡ refused g
+        → Right-loaded period left right d h′ t
+    unfolding or-else
+    right-refused d f g t a q z = record {
+      judged = rw (loaded-refused right m h r own h′ e right-file f a) (rw (sym q) (refusal-of g t z));
+      numbers = refused-never g t z;
+      filled = refused-never g t z;
+    }
 
-    loaded-none : (file : ℕ) → refused-in file (read-outcome s .answer) ≡ none
-    unfolding refused-in
-    loaded-none file = rw (answer-is s r loaded-reading)
+    pub right-paired : (d : List ℕ) (t : TwoTexts) → r .answer ≡ Accepted
+        → (n : ℕ) → n ≡ state-count (text-of period right) → Room n (length m) (length h)
+        → Paired period left right own own d t → Right-loaded period left right d h′ t
+    unfolding or-else
+    right-paired d t a n c k P =
+        let wl = reading-accepted left l L in
+        record {
+          judged = rw (loaded-none right m h r own h′ e a right-file) (P .judged);
+          numbers = P .numbers;
+          filled = λ z. record {
+            own = own;
+            filled = loaded-filled right m h r own h′ e a n c k;
+            before = own;
+            space = table-fits (text-of period right) (text-of period left .«channel_count» + 1) (length own)
+                (omega (arith, wl .formed .channels)) (loaded-long right m h r own h′ e a n c k);
+            moves-are = P .moves z;
+          };
+        }
 
-    loaded-moves : m′ ≡ written (table-entry (text-of s)) (table-size (text-of s)) m
-    loaded-moves = ap (λ (x : Loading). x .moves) e ∙ load-moves s m h (answer-is s r loaded-reading)
+  -- the paths of the whole
+  module _ (left right : List ℕ) where
+    loads-refused : (lm rm lh rh : List ℕ) (f : Refusal) (t : TwoTexts) → two-judged period left right ≡ some f → t
+        ≡ refused f
+        → Loads period left right lm rm lh rh t
+    loads-refused lm rm lh rh f t j e = record { judged = j ∙ refusal-of f t e; loaded = λ c. refused-never f t e }
 
-    -- the slices have room for it
-    module _ (n : ℕ) (c : n ≡ state-count (text-of s)) (k : Room n (length m) (length h)) where
-      loaded-few : n ≤ state-limit
-      loaded-few = omega (arith, c, judgement-few (text-of s) (reading-accepted s r loaded-reading .clean))
+    pub tick-refused : (lm rm lh rh : List ℕ) (t : TwoTexts) → tick-allowed period ≡ false
+        → t ≡ refused (tick-out-of-range period) → Loads period left right lm rm lh rh t
+    unfolding two-judged texts-judged channels-judged tick-judged or-else
+    tick-refused lm rm lh rh t h e = loads-refused lm rm lh rh (tick-out-of-range period) t (rw h) e
 
-      loaded-most : state-count (text-of s) * step-limit ≤ length m
-      loaded-most = rw (sym c) (k .table loaded-few)
+    module _ (allowed : tick-allowed period ≡ true) where
+      pub left-too-long : (lm rm lh rh : List ℕ) (t : TwoTexts) → largest-text < length left
+          → t ≡ refused (in-file left-file text-too-long) → Loads period left right lm rm lh rh t
+      unfolding two-judged texts-judged channels-judged tick-judged too-long-in or-else
+      left-too-long lm rm lh rh t h e =
+          loads-refused lm rm lh rh (in-file left-file text-too-long) t
+          (rw (allowed, lt-ltb largest-text (length left) h)) e
 
-      loaded-room : table-size (text-of s) ≤ length m
-      unfolding table-size
-      loaded-room =
-          table-fits (text-of s) (text-of s .«channel_count» + 1) (length m)
-          (omega (arith, reading-accepted s r loaded-reading .formed .channels)) loaded-most
+      module _ (h : length left ≤ largest-text) where
+        pub right-too-long : (lm rm lh rh : List ℕ) (t : TwoTexts) → largest-text < length right
+            → t ≡ refused (in-file right-file text-too-long) → Loads period left right lm rm lh rh t
+        unfolding two-judged texts-judged channels-judged tick-judged too-long-in or-else
+        right-too-long lm rm lh rh t k e =
+            loads-refused lm rm lh rh (in-file right-file text-too-long) t
+            (rw (allowed, le-ltb largest-text (length left) h, lt-ltb largest-text (length right) k)) e
 
-      loaded-filled : Filled (text-of s) m′ h′
-      loaded-filled = record {
-        over = m;
-        room = loaded-room;
-        moves-are = loaded-moves;
-        under = h;
-        long = rw (sym c) (k .bits loaded-few);
-        holds-are = ap (λ (x : Loading). x .holds) e ∙ load-holds s m h (answer-is s r loaded-reading);
-      }
+        module _ (k : length right ≤ largest-text) (lm lh : List ℕ) (l : Reading) (lm′ lh′ : List ℕ)
+            (e : loading l lm′ lh′ ≡ load-outcome period left lm lh) where
+          pub left-refused : (rm rh : List ℕ) (f g : Refusal) (t : TwoTexts) → l .answer ≡ Refused f
+              → g ≡ in-file left-file f → t ≡ refused g
+              → Loads period left right lm′ rm lh′ rh t
+          unfolding two-judged texts-judged channels-judged tick-judged too-long-in or-else
+          left-refused rm rh f g t a q z =
+              loads-refused lm′ rm lh′ rh g t
+              (rw (
+                allowed,
+                le-ltb largest-text (length left) h,
+                le-ltb largest-text (length right) k,
+                loaded-refused left lm lh l lm′ lh′ e left-file f a,
+                q,
+              )) z
 
-      -- the table keeps its length
-      loaded-long : state-count (text-of s) * step-limit ≤ length m′
-      loaded-long =
-          let l = written-length (table-entry (text-of s)) (table-size (text-of s)) m loaded-room in
-          omega (arith, loaded-most, ap length loaded-moves, l)
-
-      pub loaded-wide : r .states * step-limit ≤ length m′
-      loaded-wide = rw (states-are s r loaded-reading) loaded-long
-
--- the paths after the right is loaded
-module _ (left : List ℕ) (l : Reading) (L : Accepted-reading left l) (right m h : List ℕ) (r : Reading)
-    (own h′ : List ℕ) (e : loading r own h′ ≡ load-outcome right m h) where
-  pub right-refused : (d : List ℕ) (f g : Refusal) (t : TwoTexts) → r .answer ≡ Refused f
-      → g ≡ in-file right-file f → t ≡ refused g
-      → Right-loaded left right d h′ t
-  unfolding or-else
-  right-refused d f g t a q z = record {
-    judged = rw (loaded-refused right m h r own h′ e right-file f a) (rw (sym q) (refusal-of g t z));
-    numbers = refused-never g t z;
-    filled = refused-never g t z;
-  }
-
-  pub right-paired : (d : List ℕ) (t : TwoTexts) → r .answer ≡ Accepted
-      → (n : ℕ) → n ≡ state-count (text-of right) → Room n (length m) (length h)
-      → Paired left right own own d t → Right-loaded left right d h′ t
-  unfolding or-else
-  right-paired d t a n c k P =
-      let wl = reading-accepted left l L in
-      record {
-        judged = rw (loaded-none right m h r own h′ e a right-file) (P .judged);
-        numbers = P .numbers;
-        filled = λ z. record {
-          own = own;
-          filled = loaded-filled right m h r own h′ e a n c k;
-          before = own;
-          space = table-fits (text-of right) (text-of left .«channel_count» + 1) (length own)
-              (omega (arith, wl .formed .channels)) (loaded-long right m h r own h′ e a n c k);
-          moves-are = P .moves z;
-        };
-      }
-
--- the paths of the whole
-module _ (left right : List ℕ) where
-  loads-refused : (lm rm lh rh : List ℕ) (f : Refusal) (t : TwoTexts) → two-judged left right ≡ some f → t ≡ refused f
-      → Loads left right lm rm lh rh t
-  loads-refused lm rm lh rh f t j e = record { judged = j ∙ refusal-of f t e; loaded = λ c. refused-never f t e }
-
-  pub left-too-long : (lm rm lh rh : List ℕ) (t : TwoTexts) → largest-text < length left
-      → t ≡ refused (in-file left-file text-too-long) → Loads left right lm rm lh rh t
-  unfolding two-judged texts-judged channels-judged too-long-in or-else
-  left-too-long lm rm lh rh t h e =
-      loads-refused lm rm lh rh (in-file left-file text-too-long) t (rw (lt-ltb largest-text (length left) h)) e
-
-  module _ (h : length left ≤ largest-text) where
-    pub right-too-long : (lm rm lh rh : List ℕ) (t : TwoTexts) → largest-text < length right
-        → t ≡ refused (in-file right-file text-too-long) → Loads left right lm rm lh rh t
-    unfolding two-judged texts-judged channels-judged too-long-in or-else
-    right-too-long lm rm lh rh t k e =
-        loads-refused lm rm lh rh (in-file right-file text-too-long) t
-        (rw (le-ltb largest-text (length left) h, lt-ltb largest-text (length right) k)) e
-
-    module _ (k : length right ≤ largest-text) (lm lh : List ℕ) (l : Reading) (lm′ lh′ : List ℕ)
-        (e : loading l lm′ lh′ ≡ load-outcome left lm lh) where
-      pub left-refused : (rm rh : List ℕ) (f g : Refusal) (t : TwoTexts) → l .answer ≡ Refused f
-          → g ≡ in-file left-file f → t ≡ refused g
-          → Loads left right lm′ rm lh′ rh t
-      unfolding two-judged texts-judged channels-judged too-long-in or-else
-      left-refused rm rh f g t a q z =
-          loads-refused lm′ rm lh′ rh g t
-          (rw (
-            le-ltb largest-text (length left) h,
-            le-ltb largest-text (length right) k,
-            loaded-refused left lm lh l lm′ lh′ e left-file f a,
-            q,
-          )) z
-
-      pub both-read : (rm rh : List ℕ) (t : TwoTexts) → l .answer ≡ Accepted
-          → (n : ℕ) → n ≡ state-count (text-of left) → Room n (length lm) (length lh)
-          → Right-loaded left right rm rh t → Loads left right lm′ rm lh′ rh t
-      unfolding two-judged texts-judged channels-judged too-long-in or-else
-      both-read rm rh t a n q m R =
-          let j : two-judged left right ≡ refusal-in (t .answer) =
-          rw (
-            le-ltb largest-text (length left) h,
-            le-ltb largest-text (length right) k,
-            loaded-none left lm lh l lm′ lh′ e a left-file,
-          ) (R .judged) in
-          record {
-            judged = j;
-            loaded = λ c z. rw (R .numbers z)
-                (both-loaded left right lm′ rm lh′ rh (judged-none left right (sym (j ∙ accepted-none t z))) c
-                (loaded-filled left lm lh l lm′ lh′ e a n q m) (R .filled z));
-          }
+          pub both-read : (rm rh : List ℕ) (t : TwoTexts) → l .answer ≡ Accepted
+              → (n : ℕ) → n ≡ state-count (text-of period left) → Room n (length lm) (length lh)
+              → Right-loaded period left right rm rh t → Loads period left right lm′ rm lh′ rh t
+          unfolding two-judged texts-judged channels-judged tick-judged too-long-in or-else
+          both-read rm rh t a n q m R =
+              let j : two-judged period left right ≡ refusal-in (t .answer) =
+              rw (
+                allowed,
+                le-ltb largest-text (length left) h,
+                le-ltb largest-text (length right) k,
+                loaded-none left lm lh l lm′ lh′ e a left-file,
+              ) (R .judged) in
+              record {
+                judged = j;
+                loaded = λ c z. rw (R .numbers z)
+                    (both-loaded period left right lm′ rm lh′ rh
+                    (judged-none period left right (sym (j ∙ accepted-none t z))) c
+                    (loaded-filled left lm lh l lm′ lh′ e a n q m) (R .filled z));
+              }

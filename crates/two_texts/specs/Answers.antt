@@ -52,42 +52,45 @@ pub record Sized (t : Text) (n : ℕ) : Type 0 where
   pub count : n ≡ state-count t
   pub few : state-count t ≤ state-limit
 
--- the reading r of the text s, which is accepted
-pub record Accepted-reading (s : List ℕ) (r : Reading) : Type 0 where
-  pub same : r ≡ read-outcome s
-  pub accepted : r .answer ≡ verdict.Accepted
+-- at one tick length, `period` (SPECIFICATION 4.7)
+module _ (period : ℕ) where
+  -- the reading r of the text s, which is accepted
+  pub record Accepted-reading (s : List ℕ) (r : Reading) : Type 0 where
+    pub same : r ≡ read-outcome period s
+    pub accepted : r .answer ≡ verdict.Accepted
 
--- how many entries the right's table has by the left's steps
-abbrev pub size-by-left : List ℕ → List ℕ → ℕ
-size-by-left left right = state-count (text-of right) * (text-of left .«channel_count» + 1)
+  -- how many entries the right's table has by the left's steps
+  abbrev pub size-by-left : List ℕ → List ℕ → ℕ
+  size-by-left left right = state-count (text-of period right) * (text-of period left .«channel_count» + 1)
 
--- the right's table `own` by the left's steps, over d
-unfoldable pub by-left : List ℕ → List ℕ → List ℕ → List ℕ → List ℕ
-by-left left right own d =
-    written
-    (renumbered own (tab-from (step-of left right) 0 step-limit) (text-of right .«channel_count» + 1)
-    (text-of left .«channel_count» + 1))
-    (size-by-left left right) d
+  -- the right's table `own` by the left's steps, over d
+  unfoldable pub by-left : List ℕ → List ℕ → List ℕ → List ℕ → List ℕ
+  by-left left right own d =
+      written
+      (renumbered own (tab-from (step-of period left right) 0 step-limit) (text-of period right .«channel_count» + 1)
+      (text-of period left .«channel_count» + 1))
+      (size-by-left left right) d
 
--- pairing the channels: code 12, else the numbers, and `before` with the right's table `own` by the left's steps
-pub record Paired (left right own before after : List ℕ) (t : TwoTexts) : Type 0 where
-  pub judged : refused-pairing (unmatched left (text-of left) right (text-of right)) ≡ refusal-in (t .answer)
-  pub numbers : t .answer ≡ Accepted → t ≡ accepted (text-of left) (text-of right)
-  pub moves : t .answer ≡ Accepted → after ≡ by-left left right own before
+  -- pairing the channels: code 12, else the numbers, and `before` with the right's table `own` by the left's steps
+  pub record Paired (left right own before after : List ℕ) (t : TwoTexts) : Type 0 where
+    pub judged : refused-pairing (unmatched left (text-of period left) right (text-of period right))
+        ≡ refusal-in (t .answer)
+    pub numbers : t .answer ≡ Accepted → t ≡ accepted (text-of period left) (text-of period right)
+    pub moves : t .answer ≡ Accepted → after ≡ by-left left right own before
 
--- what is known of the right's slices once both texts are accepted
-pub record Right-filled (left right moves holds : List ℕ) : Type 0 where
-  pub own : List ℕ
-  pub filled : Filled (text-of right) own holds
-  pub before : List ℕ
-  pub space : size-by-left left right ≤ length before
-  pub moves-are : moves ≡ by-left left right own before
+  -- what is known of the right's slices once both texts are accepted
+  pub record Right-filled (left right moves holds : List ℕ) : Type 0 where
+    pub own : List ℕ
+    pub filled : Filled (text-of period right) own holds
+    pub before : List ℕ
+    pub space : size-by-left left right ≤ length before
+    pub moves-are : moves ≡ by-left left right own before
 
--- loading the right after the left was accepted: codes 2 to 11 of the right, then 12
-pub record Right-loaded (left right moves holds : List ℕ) (t : TwoTexts) : Type 0 where
-  pub judged :
-      or-else (refused-in right-file (read-outcome right .answer))
-      (refused-pairing (unmatched left (text-of left) right (text-of right)))
-      ≡ refusal-in (t .answer)
-  pub numbers : t .answer ≡ Accepted → t ≡ accepted (text-of left) (text-of right)
-  pub filled : t .answer ≡ Accepted → Right-filled left right moves holds
+  -- loading the right after the left was accepted: codes 2 to 11 of the right, then 12
+  pub record Right-loaded (left right moves holds : List ℕ) (t : TwoTexts) : Type 0 where
+    pub judged :
+        or-else (refused-in right-file (read-outcome period right .answer))
+        (refused-pairing (unmatched left (text-of period left) right (text-of period right)))
+        ≡ refusal-in (t .answer)
+    pub numbers : t .answer ≡ Accepted → t ≡ accepted (text-of period left) (text-of period right)
+    pub filled : t .answer ≡ Accepted → Right-filled left right moves holds

@@ -15,13 +15,17 @@ unfoldable pub refusal-in : Verdict → Option Refusal
 refusal-in Accepted = none
 refusal-in (Refused r) = some r
 
--- the numbers of t and the slices are those of the two texts, the right's moves by the left's step numbers
-abbrev pub Loaded : {left right : List ℕ} → Compared left right → List ℕ → List ℕ → List ℕ → List ℕ → TwoTexts → Type 0
-Loaded c left-moves right-moves left-holds right-holds t = Held (left-system c) (right-system c) (t .sides) (t .inputs)
-    left-moves right-moves left-holds right-holds
+-- at one tick length, `period` (SPECIFICATION 4.7)
+module _ (period : ℕ) where
+  -- the numbers of t and the slices are those of the two texts, the right's moves by the left's step numbers
+  abbrev pub Loaded : {left right : List ℕ} → Compared period left right → List ℕ → List ℕ → List ℕ → List ℕ → TwoTexts
+      → Type 0
+  Loaded c left-moves right-moves left-holds right-holds t = Held (left-system period c) (right-system period c)
+      (t .sides) (t .inputs)
+      left-moves right-moves left-holds right-holds
 
--- what loading two texts promises
-pub record Loads (left right left-moves right-moves left-holds right-holds : List ℕ) (t : TwoTexts) : Type 0 where
-  pub judged : two-judged left right ≡ refusal-in (t .answer)
-  pub loaded : (c : Compared left right) → t .answer ≡ Accepted
-      → Loaded c left-moves right-moves left-holds right-holds t
+  -- what loading two texts promises
+  pub record Loads (left right left-moves right-moves left-holds right-holds : List ℕ) (t : TwoTexts) : Type 0 where
+    pub judged : two-judged period left right ≡ refusal-in (t .answer)
+    pub loaded : (c : Compared period left right) → t .answer ≡ Accepted
+        → Loaded c left-moves right-moves left-holds right-holds t

@@ -26,12 +26,6 @@ few-not n w = record {
 pub few-within : (n w : ℕ) → n ≤ few-states → Few (leb w few-states) n w
 few-within n w h = record { left = λ _. h; right = λ e. leb-true w few-states e }
 
--- b is the two texts, parsed and measured
-pub record Measures-two (left right : List ℕ) (b : MeasuredTexts) : Type 0 where
-  pub left-text : Measures left (b .left)
-  pub right-text : Measures right (b .right)
-  pub few : Few (b .few) (b .left .states) (b .right .states)
-
 -- slices of these lengths have room for both
 pub record Rooms (b : MeasuredTexts) (left-moves right-moves left-holds right-holds : ℕ) : Type 0 where
   pub left : Room (b .left .states) left-moves left-holds
@@ -51,3 +45,11 @@ module _ (b : MeasuredTexts) (lm rm lh rh : ℕ) where
     left = room-always _ lm lh (omega arith) (omega arith);
     right = room-always _ rm rh (omega arith) (omega arith);
   }
+
+-- at one tick length, `period` (SPECIFICATION 4.7)
+module _ (period : ℕ) where
+  -- b is the two texts, parsed and measured
+  pub record Measures-two (left right : List ℕ) (b : MeasuredTexts) : Type 0 where
+    pub left-text : Measures period left (b .left)
+    pub right-text : Measures period right (b .right)
+    pub few : Few (b .few) (b .left .states) (b .right .states)

@@ -1,4 +1,5 @@
-// Reads the two texts of an operation, pairs their channels by name and tabulates both: codes 1 to 12.
+// Reads the two texts of an operation, pairs their channels by name and tabulates both: codes 24
+// and 1 to 12.
 use clocks_read::Measured;
 use clocks_read::Reading;
 use limits::LARGEST_TEXT;
@@ -89,9 +90,17 @@ fn accepted(l: Text, left_states: usize, r: Text, right_states: usize) -> TwoTex
 }
 
 // Code 12, else the right's table in `moves` is renumbered by the left's steps: there are equally many.
-fn paired(left: &[u8], l: Reading, right: &[u8], r: Reading, moves: &mut [u16]) -> TwoTexts
-    requires { ⌜ Accepted-reading (now left) l × Accepted-reading (now right) r × (r .states * step-limit ≤ length (now moves)) ⌝ }
-    ensures { λ t. ⌜ Paired (now (left .entry)) (now (right .entry)) (now (moves .entry)) (now (moves .entry))
+fn paired(
+    period: usize,
+    left: &[u8],
+    l: Reading,
+    right: &[u8],
+    r: Reading,
+    moves: &mut [u16],
+) -> TwoTexts
+    requires { ⌜ Accepted-reading period (now left) l × Accepted-reading period (now right) r
+        × (r .states * step-limit ≤ length (now moves)) ⌝ }
+    ensures { λ t. ⌜ Paired period (now (left .entry)) (now (right .entry)) (now (moves .entry)) (now (moves .entry))
         (now (moves .exit)) t ⌝ }
 {
     let a = l.text;
@@ -112,6 +121,7 @@ fn paired(left: &[u8], l: Reading, right: &[u8], r: Reading, moves: &mut [u16]) 
 
 // Judges the right text after the left one was accepted.
 fn load_right(
+    period: usize,
     left: &[u8],
     l: Reading,
     right: &[u8],
@@ -119,9 +129,10 @@ fn load_right(
     moves: &mut [u16],
     holds: &mut [u8],
 ) -> TwoTexts
-    requires { ⌜ Accepted-reading (now left) l × Measures (now right) m
+    requires { ⌜ Accepted-reading period (now left) l × Measures period (now right) m
         × Room (m .states) (length (now moves)) (length (now holds)) ⌝ }
-    ensures { λ t. ⌜ Right-loaded (now (left .entry)) (now (right .entry)) (now (moves .exit)) (now (holds .exit)) t ⌝ }
+    ensures { λ t. ⌜ Right-loaded period (now (left .entry)) (now (right .entry)) (now (moves .exit))
+        (now (holds .exit)) t ⌝ }
 {
     let r = clocks_read::judge(m, moves, holds);
     let answer = r.answer;
@@ -130,7 +141,7 @@ fn load_right(
             let g = f.in_file(RIGHT_FILE);
             refused(g)
         }
-        Verdict::Accepted => paired(left, l, right, r, moves),
+        Verdict::Accepted => paired(period, left, l, right, r, moves),
     }
 }
 
@@ -145,11 +156,11 @@ fn are_few(n: usize, w: usize) -> bool
 }
 
 // Parses both texts and counts their states. Slices for them are made after this, small ones where small ones do.
-pub fn measure_two(left: &[u8], right: &[u8]) -> MeasuredTexts
-    ensures { λ b. ⌜ Measures-two (now (left .entry)) (now (right .entry)) b ⌝ }
+pub fn measure_two(period: usize, left: &[u8], right: &[u8]) -> MeasuredTexts
+    ensures { λ b. ⌜ Measures-two period (now (left .entry)) (now (right .entry)) b ⌝ }
 {
-    let l = clocks_read::measure(left);
-    let r = clocks_read::measure(right);
+    let l = clocks_read::measure(period, left);
+    let r = clocks_read::measure(period, right);
     let few = are_few(l.states, r.states);
     MeasuredTexts {
         left: l,
@@ -166,9 +177,10 @@ fn too_long(file: usize) -> Refusal
     f.in_file(file)
 }
 
-// Codes 1 to 12, else the numbers of both texts, the move tables by the left's steps and the bits of the states whose
-// invariant is true.
+// Codes 24 and 1 to 12, else the numbers of both texts, the move tables by the left's steps and the bits of the states
+// whose invariant is true.
 pub fn load_two(
+    period: usize,
     left: &[u8],
     right: &[u8],
     both: MeasuredTexts,
@@ -177,11 +189,16 @@ pub fn load_two(
     lh: &mut [u8],
     rh: &mut [u8],
 ) -> TwoTexts
-    requires { ⌜ Measures-two (now left) (now right) both
+    requires { ⌜ Measures-two period (now left) (now right) both
         × Rooms both (length (now lm)) (length (now rm)) (length (now lh)) (length (now rh)) ⌝ }
-    ensures { λ t. ⌜ Loads (now (left .entry)) (now (right .entry)) (now (lm .exit)) (now (rm .exit)) (now (lh .exit))
+    ensures { λ t. ⌜ Loads period (now (left .entry)) (now (right .entry)) (now (lm .exit)) (now (rm .exit))
+        (now (lh .exit))
         (now (rh .exit)) t ⌝ }
 {
+    if !limits::is_tick_length(period) {
+        let f = Refusal::tick_out_of_range(period);
+        return refused(f);
+    }
     if LARGEST_TEXT < left.len() {
         let f = too_long(LEFT_FILE);
         return refused(f);
@@ -199,6 +216,6 @@ pub fn load_two(
             let g = f.in_file(LEFT_FILE);
             refused(g)
         }
-        Verdict::Accepted => load_right(left, l, right, theirs, rm, rh),
+        Verdict::Accepted => load_right(period, left, l, right, theirs, rm, rh),
     }
 }

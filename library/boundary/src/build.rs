@@ -5,33 +5,57 @@ use megzhoi::raw;
 use std::ffi::{c_char, c_int, c_void, CStr, CString};
 use std::mem::transmute;
 
-type Read = unsafe extern "C" fn(*const u8, usize, *mut usize, usize, *mut usize, *mut usize, *mut usize) -> usize;
-type SafeStates = unsafe extern "C" fn(*const u8, usize, *mut u8, usize, *mut usize, *mut usize, *mut usize) -> usize;
-type Implementation = unsafe extern "C" fn(*const u8, usize, *mut usize, *mut usize, *mut usize) -> usize;
-#[rustfmt::skip]
-type Search = unsafe extern "C" fn(
-    *const u8, usize, *const u8, usize, *mut u8, usize, *mut u32, usize, *mut u32, usize, *mut u32, usize,
-    *mut usize, *mut usize, *mut usize,
-) -> usize;
-#[rustfmt::skip]
-type Check = unsafe extern "C" fn(
-    *const u8, usize, *const u8, usize, *mut u8, usize, *const u8, usize, *mut usize, *mut usize, *mut usize,
-) -> usize;
-#[rustfmt::skip]
-type Widest = unsafe extern "C" fn(
-    *const u8, usize, *const u8, usize, *mut u8, usize, *mut u8, usize, *mut usize, *mut usize, *mut usize,
-) -> usize;
+/// For each function of the library its type, and its type in a build from before there was a tick length.
+macro_rules! types {
+    ($($name:ident, $before:ident: $($argument:ty),*;)*) => {
+        $(type $name = unsafe extern "C" fn(usize, $($argument),*, *mut usize, *mut usize, *mut usize) -> usize;
+          type $before = unsafe extern "C" fn($($argument),*, *mut usize, *mut usize, *mut usize) -> usize;)*
+    };
+}
+
+types! {
+    Read, ReadBefore: *const u8, usize, *mut usize, usize;
+    SafeStates, SafeStatesBefore: *const u8, usize, *mut u8, usize;
+    Implementation, ImplementationBefore: *const u8, usize;
+    Search, SearchBefore:
+        *const u8, usize, *const u8, usize, *mut u8, usize, *mut u32, usize, *mut u32, usize, *mut u32, usize;
+    Check, CheckBefore: *const u8, usize, *const u8, usize, *mut u8, usize, *const u8, usize;
+    Widest, WidestBefore: *const u8, usize, *const u8, usize, *mut u8, usize, *mut u8, usize;
+}
+
+/// A function that takes the tick length before its other arguments, or an older one that does not.
+#[derive(Clone, Copy)]
+enum Function<Now, Before> {
+    Now(Now),
+    Before(Before),
+}
+
+/// The tick length with which a build is called that takes none: constants are ticks.
+pub const ONLY_TICK: usize = 1;
+
+/// Calls a function in either form.
+macro_rules! call {
+    ($function:expr, $tick_length:expr, $($argument:expr),* $(,)?) => {
+        match $function {
+            Function::Now(function) => function($tick_length, $($argument),*),
+            Function::Before(function) => {
+                assert_eq!($tick_length, ONLY_TICK, "an older build has no other tick length");
+                function($($argument),*)
+            }
+        }
+    };
+}
 
 /// The functions of one build.
 #[derive(Clone, Copy)]
 pub struct Build {
-    read: Read,
-    safe_states: SafeStates,
+    read: Function<Read, ReadBefore>,
+    safe_states: Function<SafeStates, SafeStatesBefore>,
     /// An older build may lack it.
-    implementation: Option<Implementation>,
-    search: Search,
-    check: Check,
-    widest: Widest,
+    implementation: Option<Function<Implementation, ImplementationBefore>>,
+    search: Function<Search, SearchBefore>,
+    check: Function<Check, CheckBefore>,
+    widest: Function<Widest, WidestBefore>,
 }
 
 /// The environment variables that name the shared objects of an older build and of this one.
@@ -48,12 +72,12 @@ const RTLD_NOW: c_int = 2;
 
 impl Build {
     pub const LINKED: Build = Build {
-        read: raw::megzhoi_read,
-        safe_states: raw::megzhoi_safe_states,
-        implementation: Some(raw::megzhoi_implementation),
-        search: raw::megzhoi_search,
-        check: raw::megzhoi_check,
-        widest: raw::megzhoi_widest,
+        read: Function::Now(raw::megzhoi_read),
+        safe_states: Function::Now(raw::megzhoi_safe_states),
+        implementation: Some(Function::Now(raw::megzhoi_implementation)),
+        search: Function::Now(raw::megzhoi_search),
+        check: Function::Now(raw::megzhoi_check),
+        widest: Function::Now(raw::megzhoi_widest),
     };
 
     /// The older build that MEGZHOI_BEFORE names, if it names one. A shared object is made from an archive by
@@ -66,6 +90,11 @@ impl Build {
     /// linked one.
     pub fn after() -> Build {
         Build::named(AFTER).unwrap_or(Build::LINKED)
+    }
+
+    /// Whether the build takes a tick length; one that does not is called with `ONLY_TICK` alone.
+    pub fn takes_tick_length(&self) -> bool {
+        matches!(self.read, Function::Now(_))
     }
 
     /// The build whose shared object an environment variable names, if it names one.
@@ -90,45 +119,92 @@ impl Build {
         let named = |name: &CStr| {
             find(name).unwrap_or_else(|| panic!("{} has no {}", path.to_string_lossy(), name.to_string_lossy()))
         };
-        // SAFETY: the functions that a build has have the types of megzhoi.h.
-        unsafe {
-            Build {
-                read: transmute::<*mut c_void, Read>(named(c"megzhoi_read")),
-                safe_states: transmute::<*mut c_void, SafeStates>(named(c"megzhoi_safe_states")),
-                implementation: find(c"megzhoi_implementation")
-                    .map(|function| transmute::<*mut c_void, Implementation>(function)),
-                search: transmute::<*mut c_void, Search>(named(c"megzhoi_search")),
-                check: transmute::<*mut c_void, Check>(named(c"megzhoi_check")),
-                widest: transmute::<*mut c_void, Widest>(named(c"megzhoi_widest")),
-            }
+        let is_now = takes_tick_length(named(c"megzhoi_read"));
+        // SAFETY: the functions that a build has have the types of its megzhoi.h, with or without the tick length.
+        macro_rules! function {
+            ($now:ty, $before:ty, $found:expr) => {
+                match is_now {
+                    true => Function::Now(unsafe { transmute::<*mut c_void, $now>($found) }),
+                    false => Function::Before(unsafe { transmute::<*mut c_void, $before>($found) }),
+                }
+            };
+        }
+        Build {
+            read: function!(Read, ReadBefore, named(c"megzhoi_read")),
+            safe_states: function!(SafeStates, SafeStatesBefore, named(c"megzhoi_safe_states")),
+            implementation: find(c"megzhoi_implementation")
+                .map(|found| function!(Implementation, ImplementationBefore, found)),
+            search: function!(Search, SearchBefore, named(c"megzhoi_search")),
+            check: function!(Check, CheckBefore, named(c"megzhoi_check")),
+            widest: function!(Widest, WidestBefore, named(c"megzhoi_widest")),
         }
     }
 }
 
+/// Whether a build's `megzhoi_read` takes the tick length. It has one name either way, so it is asked: it is called
+/// with the arguments of an older one, an empty text and an empty record, and one place more. An older one refuses the
+/// text by code 2 and does not see the last place. One that takes the tick length sees the text's address there, which
+/// is above 60,000, so it refuses by code 24 and touches nothing but its three places: of the four that are handed over
+/// the last three.
+fn takes_tick_length(read: *mut c_void) -> bool {
+    type Asked = unsafe extern "C" fn(
+        *const u8,
+        usize,
+        *mut usize,
+        usize,
+        *mut usize,
+        *mut usize,
+        *mut usize,
+        *mut usize,
+    ) -> usize;
+    let (text, mut record) = (*b"text", [0_usize; 1]);
+    let [a, b, c, d] = &mut [0; 4];
+    // SAFETY: by the C calling convention of x86-64 Linux each argument is a word, and words beyond those that a
+    // function takes do not matter to it. An older one is given two slices without entries, and either has valid places
+    // to write.
+    let code = unsafe { transmute::<*mut c_void, Asked>(read)(text.as_ptr(), 0, record.as_mut_ptr(), 0, a, b, c, d) };
+    match code {
+        plain::codes::TICK_OUT_OF_RANGE => true,
+        plain::codes::MISFIT => false,
+        code => panic!("megzhoi_read answers {code} to an empty text"),
+    }
+}
+
 impl Operations for Build {
-    fn read(&self, text: &[u8], record: &mut [usize]) -> Returned {
+    #[rustfmt::skip]
+    fn read(&self, tick_length: usize, text: &[u8], record: &mut [usize]) -> Returned {
         // SAFETY: pointers and lengths are those of live slices that do not overlap.
         returned(|file, p, q| unsafe {
-            (self.read)(text.as_ptr(), text.len(), record.as_mut_ptr(), record.len(), file, p, q)
+            call!(
+                self.read, tick_length,
+                text.as_ptr(), text.len(), record.as_mut_ptr(), record.len(), file, p, q,
+            )
         })
     }
 
-    fn safe_states(&self, text: &[u8], keep: &mut [u8]) -> Returned {
+    #[rustfmt::skip]
+    fn safe_states(&self, tick_length: usize, text: &[u8], keep: &mut [u8]) -> Returned {
         // SAFETY: as in `read`.
         returned(|file, p, q| unsafe {
-            (self.safe_states)(text.as_ptr(), text.len(), keep.as_mut_ptr(), keep.len(), file, p, q)
+            call!(
+                self.safe_states, tick_length,
+                text.as_ptr(), text.len(), keep.as_mut_ptr(), keep.len(), file, p, q,
+            )
         })
     }
 
-    fn implementation(&self, text: &[u8]) -> Option<Returned> {
+    fn implementation(&self, tick_length: usize, text: &[u8]) -> Option<Returned> {
         let implementation = self.implementation?;
         // SAFETY: as in `read`.
-        Some(returned(|file, p, q| unsafe { implementation(text.as_ptr(), text.len(), file, p, q) }))
+        Some(returned(|file, p, q| unsafe {
+            call!(implementation, tick_length, text.as_ptr(), text.len(), file, p, q)
+        }))
     }
 
     #[rustfmt::skip]
     fn search(
         &self,
+        tick_length: usize,
         left: &[u8],
         right: &[u8],
         keep: &mut [u8],
@@ -138,7 +214,8 @@ impl Operations for Build {
     ) -> Returned {
         // SAFETY: as in `read`.
         returned(|file, p, q| unsafe {
-            (self.search)(
+            call!(
+                self.search, tick_length,
                 left.as_ptr(), left.len(), right.as_ptr(), right.len(), keep.as_mut_ptr(), keep.len(),
                 back.as_mut_ptr(), back.len(), line.as_mut_ptr(), line.len(), run.as_mut_ptr(), run.len(),
                 file, p, q,
@@ -147,10 +224,11 @@ impl Operations for Build {
     }
 
     #[rustfmt::skip]
-    fn check(&self, left: &[u8], right: &[u8], keep: &mut [u8], table: &[u8]) -> Returned {
+    fn check(&self, tick_length: usize, left: &[u8], right: &[u8], keep: &mut [u8], table: &[u8]) -> Returned {
         // SAFETY: as in `read`.
         returned(|file, p, q| unsafe {
-            (self.check)(
+            call!(
+                self.check, tick_length,
                 left.as_ptr(), left.len(), right.as_ptr(), right.len(), keep.as_mut_ptr(), keep.len(),
                 table.as_ptr(), table.len(), file, p, q,
             )
@@ -158,10 +236,11 @@ impl Operations for Build {
     }
 
     #[rustfmt::skip]
-    fn widest(&self, left: &[u8], right: &[u8], keep: &mut [u8], table: &mut [u8]) -> Returned {
+    fn widest(&self, tick_length: usize, left: &[u8], right: &[u8], keep: &mut [u8], table: &mut [u8]) -> Returned {
         // SAFETY: as in `read`.
         returned(|file, p, q| unsafe {
-            (self.widest)(
+            call!(
+                self.widest, tick_length,
                 left.as_ptr(), left.len(), right.as_ptr(), right.len(), keep.as_mut_ptr(), keep.len(),
                 table.as_mut_ptr(), table.len(), file, p, q,
             )

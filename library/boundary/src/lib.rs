@@ -4,12 +4,13 @@
 //! stack than a thread has by default (`megzhoi::STACK`): call them inside `on_large_stack`.
 //!
 //! They are a trait, `Operations`, for the library that is linked (`Build::LINKED`), for one from a shared object and for
-//! plain Rust, so that one program can hold them against each other.
+//! plain Rust, so that one program can hold them against each other. A build from before there was a tick length is
+//! recognized, and is called with `ONLY_TICK` alone.
 
 mod build;
 mod operations;
 
-pub use build::Build;
+pub use build::{Build, ONLY_TICK};
 pub use operations::{ByPairs, ByRows, Operations};
 
 /// What a call returned: code 0 or that of the refusal, and the three numbers.

@@ -1,18 +1,19 @@
-//! The six operations, whoever carries them out.
+//! The six operations, whoever carries them out. Each takes the tick length first.
 
 use crate::Returned;
 use plain::Refusal;
 
 pub trait Operations {
-    fn read(&self, text: &[u8], record: &mut [usize]) -> Returned;
+    fn read(&self, tick_length: usize, text: &[u8], record: &mut [usize]) -> Returned;
 
-    fn safe_states(&self, text: &[u8], keep: &mut [u8]) -> Returned;
+    fn safe_states(&self, tick_length: usize, text: &[u8], keep: &mut [u8]) -> Returned;
 
     /// `None` for an older build that does not have the operation.
-    fn implementation(&self, text: &[u8]) -> Option<Returned>;
+    fn implementation(&self, tick_length: usize, text: &[u8]) -> Option<Returned>;
 
     fn search(
         &self,
+        tick_length: usize,
         left: &[u8],
         right: &[u8],
         keep: &mut [u8],
@@ -21,9 +22,9 @@ pub trait Operations {
         run: &mut [u32],
     ) -> Returned;
 
-    fn check(&self, left: &[u8], right: &[u8], keep: &mut [u8], table: &[u8]) -> Returned;
+    fn check(&self, tick_length: usize, left: &[u8], right: &[u8], keep: &mut [u8], table: &[u8]) -> Returned;
 
-    fn widest(&self, left: &[u8], right: &[u8], keep: &mut [u8], table: &mut [u8]) -> Returned;
+    fn widest(&self, tick_length: usize, left: &[u8], right: &[u8], keep: &mut [u8], table: &mut [u8]) -> Returned;
 }
 
 /// Plain Rust, tables pair by pair.
@@ -50,24 +51,25 @@ fn pairs_and_start(widest: plain::Widest) -> (usize, usize) {
 }
 
 impl Operations for ByPairs {
-    fn read(&self, text: &[u8], record: &mut [usize]) -> Returned {
-        let answer = plain::read(text);
+    fn read(&self, tick_length: usize, text: &[u8], record: &mut [usize]) -> Returned {
+        let answer = plain::read(tick_length, text);
         if let Ok(read) = &answer {
             read.write(record);
         }
         Returned::plainly(answer, |read| (read.states, 0))
     }
 
-    fn safe_states(&self, text: &[u8], keep: &mut [u8]) -> Returned {
-        Returned::plainly(plain::safe_states(text, keep), |safe| (safe.count, usize::from(safe.start)))
+    fn safe_states(&self, tick_length: usize, text: &[u8], keep: &mut [u8]) -> Returned {
+        Returned::plainly(plain::safe_states(tick_length, text, keep), |safe| (safe.count, usize::from(safe.start)))
     }
 
-    fn implementation(&self, text: &[u8]) -> Option<Returned> {
-        Some(Returned::plainly(plain::implementation(text), |()| (0, 0)))
+    fn implementation(&self, tick_length: usize, text: &[u8]) -> Option<Returned> {
+        Some(Returned::plainly(plain::implementation(tick_length, text), |()| (0, 0)))
     }
 
     fn search(
         &self,
+        tick_length: usize,
         left: &[u8],
         right: &[u8],
         keep: &mut [u8],
@@ -75,34 +77,35 @@ impl Operations for ByPairs {
         line: &mut [u32],
         run: &mut [u32],
     ) -> Returned {
-        Returned::plainly(plain::search(left, right, keep, back, line, run), |steps| (steps, 0))
+        Returned::plainly(plain::search(tick_length, left, right, keep, back, line, run), |steps| (steps, 0))
     }
 
-    fn check(&self, left: &[u8], right: &[u8], keep: &mut [u8], table: &[u8]) -> Returned {
-        Returned::plainly(plain::check(left, right, keep, table), |pairs| (pairs, 0))
+    fn check(&self, tick_length: usize, left: &[u8], right: &[u8], keep: &mut [u8], table: &[u8]) -> Returned {
+        Returned::plainly(plain::check(tick_length, left, right, keep, table), |pairs| (pairs, 0))
     }
 
-    fn widest(&self, left: &[u8], right: &[u8], keep: &mut [u8], table: &mut [u8]) -> Returned {
-        Returned::plainly(plain::widest(left, right, keep, table), pairs_and_start)
+    fn widest(&self, tick_length: usize, left: &[u8], right: &[u8], keep: &mut [u8], table: &mut [u8]) -> Returned {
+        Returned::plainly(plain::widest(tick_length, left, right, keep, table), pairs_and_start)
     }
 }
 
 /// Only the widest table and its check go by rows; the others are the same as by pairs.
 impl Operations for ByRows {
-    fn read(&self, text: &[u8], record: &mut [usize]) -> Returned {
-        ByPairs.read(text, record)
+    fn read(&self, tick_length: usize, text: &[u8], record: &mut [usize]) -> Returned {
+        ByPairs.read(tick_length, text, record)
     }
 
-    fn safe_states(&self, text: &[u8], keep: &mut [u8]) -> Returned {
-        ByPairs.safe_states(text, keep)
+    fn safe_states(&self, tick_length: usize, text: &[u8], keep: &mut [u8]) -> Returned {
+        ByPairs.safe_states(tick_length, text, keep)
     }
 
-    fn implementation(&self, text: &[u8]) -> Option<Returned> {
-        ByPairs.implementation(text)
+    fn implementation(&self, tick_length: usize, text: &[u8]) -> Option<Returned> {
+        ByPairs.implementation(tick_length, text)
     }
 
     fn search(
         &self,
+        tick_length: usize,
         left: &[u8],
         right: &[u8],
         keep: &mut [u8],
@@ -110,14 +113,14 @@ impl Operations for ByRows {
         line: &mut [u32],
         run: &mut [u32],
     ) -> Returned {
-        ByPairs.search(left, right, keep, back, line, run)
+        ByPairs.search(tick_length, left, right, keep, back, line, run)
     }
 
-    fn check(&self, left: &[u8], right: &[u8], keep: &mut [u8], table: &[u8]) -> Returned {
-        Returned::plainly(plain::check_by_rows(left, right, keep, table), |pairs| (pairs, 0))
+    fn check(&self, tick_length: usize, left: &[u8], right: &[u8], keep: &mut [u8], table: &[u8]) -> Returned {
+        Returned::plainly(plain::check_by_rows(tick_length, left, right, keep, table), |pairs| (pairs, 0))
     }
 
-    fn widest(&self, left: &[u8], right: &[u8], keep: &mut [u8], table: &mut [u8]) -> Returned {
-        Returned::plainly(plain::widest_by_rows(left, right, keep, table), pairs_and_start)
+    fn widest(&self, tick_length: usize, left: &[u8], right: &[u8], keep: &mut [u8], table: &mut [u8]) -> Returned {
+        Returned::plainly(plain::widest_by_rows(tick_length, left, right, keep, table), pairs_and_start)
     }
 }

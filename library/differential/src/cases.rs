@@ -1,14 +1,56 @@
-//! What one call is given: texts, lengths of the lent slices, a table.
+//! What one call is given: the tick length, texts, lengths of the lent slices, a table.
 
+use boundary::ONLY_TICK;
+use plain::TICK_LIMIT;
 use texts::kinds::{departing, texts, Kind, KINDS};
 use texts::{at_a_limit, damaged, noise, passive, relay, urgent, Model, Random, Reach};
-use texts::{early, hush, idle, loose, post, rearm, spare, strict};
+use texts::{early, hush, idle, loose, post, rearm, sheet, spare, strict};
+use texts::{in_milliseconds, with_other_numeral};
 
 /// Larger products are only tried with slices too short for them, to keep the run short.
 const PAIRS_LIMIT: usize = 520_000;
 
-/// One text: mostly accepted, else with a fault, at a limit, or noise.
-pub fn text(random: &mut Random) -> Vec<u8> {
+/// Tick lengths, even and odd ones, up to the end of their range.
+const TICK_LENGTHS: [usize; 8] = [2, 3, 4, 7, 999, 1_000, TICK_LIMIT - 1, TICK_LIMIT];
+
+/// Words that are no tick length, some of which would be one if only their low bits counted.
+const OUT_OF_RANGE: [usize; 6] = [0, TICK_LIMIT + 1, 1 << 16 | 1, 1 << 32 | 1, 1 << 63 | 1, usize::MAX];
+
+/// A tick length: often 1, and now and then a word that is none.
+pub fn tick_length(random: &mut Random) -> usize {
+    match random.below(100) {
+        0..=34 => ONLY_TICK,
+        35..=59 => *random.pick(&TICK_LENGTHS),
+        60..=79 => random.between(2, 20),
+        80..=94 => random.between(2, TICK_LIMIT),
+        95 => random.next() as usize,
+        _ => *random.pick(&OUT_OF_RANGE),
+    }
+}
+
+/// A text of ticks as it is to be read at a tick length: mostly in milliseconds that come to the same ticks, now and
+/// then with another numeral, or as it is.
+fn at_tick_length(random: &mut Random, tick_length: usize, text: Vec<u8>) -> Vec<u8> {
+    if !(1..=TICK_LIMIT).contains(&tick_length) {
+        return text;
+    }
+    match random.below(100) {
+        0..=84 => in_milliseconds(random, &text, tick_length),
+        85..=94 => {
+            let text = in_milliseconds(random, &text, tick_length);
+            with_other_numeral(random, &text, tick_length)
+        }
+        _ => text,
+    }
+}
+
+/// One text at a tick length: mostly accepted, else with a fault, at a limit, or noise.
+pub fn text(random: &mut Random, tick_length: usize) -> Vec<u8> {
+    let text = text_of_ticks(random);
+    at_tick_length(random, tick_length, text)
+}
+
+fn text_of_ticks(random: &mut Random) -> Vec<u8> {
     match random.below(100) {
         0..=49 => {
             let locations = random.between(1, 5);
@@ -17,16 +59,16 @@ pub fn text(random: &mut Random) -> Vec<u8> {
         50..=74 => damaged(random),
         75..=89 => at_a_limit(random),
         90..=93 => noise(random),
-        _ => random.pick(&[post(), rearm(), early(), hush(), idle(), strict(), loose(), spare()]).clone(),
+        _ => random.pick(&[post(), rearm(), early(), hush(), idle(), strict(), loose(), spare(), sheet()]).clone(),
     }
 }
 
 /// One text for the implementation check: any one as above, one of a kind, one of up to 4,096 states of which all, few or
 /// a line are reached, or one that is an implementation or near one.
-pub fn text_to_judge(random: &mut Random) -> Vec<u8> {
-    match random.below(100) {
-        0..=39 => text(random),
-        40..=44 => two_of_a_kind(random).0,
+pub fn text_to_judge(random: &mut Random, tick_length: usize) -> Vec<u8> {
+    let text = match random.below(100) {
+        0..=39 => text_of_ticks(random),
+        40..=44 => kinds_of_ticks(random).0,
         45..=46 => {
             let reach = *random.pick(&[Reach::All, Reach::Few, Reach::Fault]);
             passive(random.between(3, 64), random.between(3, 16), reach)
@@ -34,11 +76,30 @@ pub fn text_to_judge(random: &mut Random) -> Vec<u8> {
         47 => relay(random.between(2, 128)),
         48..=64 => urgent(random, 5).text(random),
         _ => urgent(random, 5).varied(random).text(random),
-    }
+    };
+    at_tick_length(random, tick_length, text)
 }
 
-/// Two texts: near ones, equal ones, ones that share only their channels or not even those.
-pub fn two_texts(random: &mut Random) -> (Vec<u8>, Vec<u8>) {
+/// Left and right.
+type Texts = (Vec<u8>, Vec<u8>);
+
+fn both_at_tick_length(random: &mut Random, tick_length: usize, (left, right): Texts) -> Texts {
+    (at_tick_length(random, tick_length, left), at_tick_length(random, tick_length, right))
+}
+
+/// Two texts at a tick length: near ones, equal ones, ones that share only their channels or not even those.
+pub fn two_texts(random: &mut Random, tick_length: usize) -> Texts {
+    let texts = two_of_ticks(random);
+    both_at_tick_length(random, tick_length, texts)
+}
+
+/// Two texts of a kind at a tick length.
+pub fn two_of_a_kind(random: &mut Random, tick_length: usize) -> Texts {
+    let texts = kinds_of_ticks(random);
+    both_at_tick_length(random, tick_length, texts)
+}
+
+fn two_of_ticks(random: &mut Random) -> Texts {
     let locations = random.between(1, 5);
     let right = Model::random(random, locations);
     let left = match random.below(100) {
@@ -50,9 +111,9 @@ pub fn two_texts(random: &mut Random) -> (Vec<u8>, Vec<u8>) {
             Model::with_channels(random, channels, 4)
         }
         65..=72 => right.with_other_channels(random),
-        73..=80 => return (text(random), right.text(random)),
-        81..=88 => return (right.text(random), text(random)),
-        _ => return (text(random), text(random)),
+        73..=80 => return (text_of_ticks(random), right.text(random)),
+        81..=88 => return (right.text(random), text_of_ticks(random)),
+        _ => return (text_of_ticks(random), text_of_ticks(random)),
     };
     match random.chance(50) {
         true => (left.text(random), right.text(random)),
@@ -61,7 +122,7 @@ pub fn two_texts(random: &mut Random) -> (Vec<u8>, Vec<u8>) {
 }
 
 /// Two texts of a kind of 4 to 720 states, in either order; now and then the left is that of another kind.
-pub fn two_of_a_kind(random: &mut Random) -> (Vec<u8>, Vec<u8>) {
+fn kinds_of_ticks(random: &mut Random) -> Texts {
     let kind = *random.pick(&KINDS);
     let most = *random.pick(&[40, 150, 720]);
     let (states, clocks, channels) = (random.between(4, most), random.between(1, 3), random.between(2, 16));
@@ -76,9 +137,18 @@ pub fn two_of_a_kind(random: &mut Random) -> (Vec<u8>, Vec<u8>) {
     }
 }
 
+/// What a call on two texts is given.
+#[derive(Clone)]
+pub struct Given {
+    pub tick_length: usize,
+    pub left: Vec<u8>,
+    pub right: Vec<u8>,
+}
+
 /// The numbers of states of two texts, where both are accepted.
-pub fn sizes(left: &[u8], right: &[u8]) -> Option<(usize, usize)> {
-    Some((plain::read(left).ok()?.states, plain::read(right).ok()?.states))
+pub fn sizes(given: &Given) -> Option<(usize, usize)> {
+    let states = |text: &[u8]| plain::read(given.tick_length, text).ok().map(|record| record.states);
+    Some((states(&given.left)?, states(&given.right)?))
 }
 
 /// Whether a walk over all pairs of states would take too long here.
@@ -107,7 +177,7 @@ pub fn short(random: &mut Random, need: usize) -> usize {
 }
 
 /// A table to check: the widest one, whole or damaged, or another one.
-pub fn table(random: &mut Random, left: &[u8], right: &[u8], sizes: Option<(usize, usize)>) -> Vec<u8> {
+pub fn table(random: &mut Random, given: &Given, sizes: Option<(usize, usize)>) -> Vec<u8> {
     let Some((rows, width)) = sizes.filter(|_| !too_large(sizes)) else {
         let length = random.below(40);
         return random.bytes(length);
@@ -117,14 +187,14 @@ pub fn table(random: &mut Random, left: &[u8], right: &[u8], sizes: Option<(usiz
     let mut table = vec![0; header.len() + rows * row];
     table[..header.len()].copy_from_slice(&header);
     // A refusal leaves the empty table; it is as good to try.
-    let _ = plain::widest_by_rows(left, right, &mut [0; 512], &mut table);
+    let _ = plain::widest_by_rows(given.tick_length, &given.left, &given.right, &mut [0; 512], &mut table);
     let raster = Raster { header: header.len(), row, rows, width };
     match random.below(20) {
         0..=6 => (),
         7..=11 => raster.flip_some(random, &mut table),
         12 => table[header.len()..].iter_mut().for_each(|byte| *byte = random.next() as u8),
         13 => table[header.len()..].fill(0xff),
-        14 => raster.only_start(&mut table, left, right),
+        14 => raster.only_start(&mut table, given),
         15..=16 => raster.set_padding(random, &mut table),
         17 => other_length(random, &mut table),
         18 => table = other_header(random, &raster, &table),
@@ -149,12 +219,12 @@ impl Raster {
         }
     }
 
-    fn only_start(&self, table: &mut [u8], left: &[u8], right: &[u8]) {
+    fn only_start(&self, table: &mut [u8], given: &Given) {
         let start = |text: &[u8]| {
-            let record = plain::read(text).expect("an accepted text");
+            let record = plain::read(given.tick_length, text).expect("an accepted text");
             record.init * (record.states / record.locations.len())
         };
-        let (s, t) = (start(left), start(right));
+        let (s, t) = (start(&given.left), start(&given.right));
         table[self.header..].fill(0);
         table[self.header + s * self.row + t / 8] |= 0x80 >> (t % 8);
     }

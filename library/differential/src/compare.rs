@@ -1,7 +1,7 @@
 //! One call made twice, by the library and by another (plain Rust or an older build), and everything it returns or
 //! writes compared.
 
-use crate::cases;
+use crate::cases::{self, Given};
 use boundary::{Build, ByPairs, Operations, Returned};
 use plain::codes::RUN_TOO_SHORT;
 use std::fmt::Debug;
@@ -18,14 +18,21 @@ pub struct Made {
     pub returned: Returned,
     pub differences: Vec<String>,
     /// What was given, for a report.
+    pub tick_length: usize,
     pub given: Vec<(&'static str, Vec<u8>)>,
     pub lengths: String,
 }
 
+/// What the library and the other returned.
+struct Both {
+    library: Returned,
+    other: Returned,
+}
+
 impl Made {
-    fn new(library: Returned, other: Returned, given: Vec<(&'static str, Vec<u8>)>, lengths: String) -> Made {
-        let mut made = Made { returned: library, differences: Vec::new(), given, lengths };
-        made.compare("returned", &library, &other);
+    fn new(both: Both, tick_length: usize, given: Vec<(&'static str, Vec<u8>)>, lengths: String) -> Made {
+        let mut made = Made { returned: both.library, differences: Vec::new(), tick_length, given, lengths };
+        made.compare("returned", &both.library, &both.other);
         made
     }
 
@@ -73,7 +80,8 @@ fn lent_words(random: &mut Random, length: usize) -> Lent<u32> {
 }
 
 pub fn read(random: &mut Random) -> Made {
-    let text = cases::text(random);
+    let tick_length = cases::tick_length(random);
+    let text = cases::text(random, tick_length);
     let length = match random.below(4) {
         0 => random.below(plain::RECORD_ENTRIES),
         1 => plain::RECORD_ENTRIES + random.below(9),
@@ -81,11 +89,12 @@ pub fn read(random: &mut Random) -> Made {
     };
     let mut library = Lent::new(random, length, |number| number as usize);
     let before = library.clone();
-    let answer = plain::read(&text);
-    let returned = Build::LINKED.read(&text, library.slice());
+    let answer = plain::read(tick_length, &text);
+    let returned = Build::LINKED.read(tick_length, &text, library.slice());
     let lengths = format!("record {length}");
     let plainly = Returned::plainly(answer.as_ref().map_err(|refusal| *refusal), |record| (record.states, 0));
-    let mut made = Made::new(returned, plainly, vec![("text", text)], lengths);
+    let both = Both { library: returned, other: plainly };
+    let mut made = Made::new(both, tick_length, vec![("text", text)], lengths);
     made.compare_beyond("record", &library, &before);
     match answer {
         Err(_) => made.compare_lent("record", &library, &before),
@@ -109,23 +118,28 @@ fn compare_record(made: &mut Made, record: &plain::Record, library: &Lent<usize>
 }
 
 pub fn safe_states(random: &mut Random) -> Made {
-    let text = cases::text(random);
-    let states = plain::read(&text).map_or(40, |record| record.states);
+    let tick_length = cases::tick_length(random);
+    let text = cases::text(random, tick_length);
+    let states = plain::read(tick_length, &text).map_or(40, |record| record.states);
     let length = cases::length(random, states.div_ceil(8));
     let mut library = lent_bytes(random, length);
     let mut plain = library.clone();
-    let returned = Build::LINKED.safe_states(&text, library.slice());
-    let answer = ByPairs.safe_states(&text, plain.slice());
-    let mut made = Made::new(returned, answer, vec![("text", text)], format!("keep {length}"));
+    let both = Both {
+        library: Build::LINKED.safe_states(tick_length, &text, library.slice()),
+        other: ByPairs.safe_states(tick_length, &text, plain.slice()),
+    };
+    let mut made = Made::new(both, tick_length, vec![("text", text)], format!("keep {length}"));
     made.compare_lent("keep", &library, &plain);
     made
 }
 
 /// `None` where one of the two does not have the operation.
-pub fn implementation(other: &dyn Operations, text: Vec<u8>) -> Option<Made> {
-    let returned = Build::LINKED.implementation(&text)?;
-    let answer = other.implementation(&text)?;
-    Some(Made::new(returned, answer, vec![("text", text)], "no slices".to_string()))
+pub fn implementation(other: &dyn Operations, tick_length: usize, text: Vec<u8>) -> Option<Made> {
+    let both = Both {
+        library: Build::LINKED.implementation(tick_length, &text)?,
+        other: other.implementation(tick_length, &text)?,
+    };
+    Some(Made::new(both, tick_length, vec![("text", text)], "no slices".to_string()))
 }
 
 /// The slices a search borrows.
@@ -137,22 +151,19 @@ struct Borrowed {
     run: Lent<u32>,
 }
 
-/// Left and right.
-type Texts = (Vec<u8>, Vec<u8>);
-
-pub fn search(random: &mut Random, other: &dyn Operations, (left, right): Texts) -> Made {
-    let mut of_library = borrowed(random, &left, &right);
+pub fn search(random: &mut Random, other: &dyn Operations, given: Given) -> Made {
+    let mut of_library = borrowed(random, &given);
+    let Given { tick_length, left, right } = given;
     let before = of_library.clone();
     let mut of_other = of_library.clone();
     let call = |operations: &dyn Operations, lent: &mut Borrowed| {
         let Borrowed { keep, back, line, run } = lent;
-        operations.search(&left, &right, keep.slice(), back.slice(), line.slice(), run.slice())
+        operations.search(tick_length, &left, &right, keep.slice(), back.slice(), line.slice(), run.slice())
     };
-    let returned = call(&Build::LINKED, &mut of_library);
-    let answer = call(other, &mut of_other);
+    let both = Both { library: call(&Build::LINKED, &mut of_library), other: call(other, &mut of_other) };
     let lengths = [before.keep.length, before.back.length, before.line.length, before.run.length];
     let lengths = format!("keep, back, line, run {lengths:?}");
-    let mut made = Made::new(returned, answer, vec![("left", left), ("right", right)], lengths);
+    let mut made = Made::new(both, tick_length, vec![("left", left), ("right", right)], lengths);
     made.compare_lent("keep", &of_library.keep, &of_other.keep);
     made.compare_lent("run", &of_library.run, &of_other.run);
     // What back and line hold is free on success and after 21 (SPECIFICATION 13.5), elsewhere they are as they came.
@@ -166,8 +177,9 @@ pub fn search(random: &mut Random, other: &dyn Operations, (left, right): Texts)
     made
 }
 
-fn borrowed(random: &mut Random, left: &[u8], right: &[u8]) -> Borrowed {
-    let sizes = cases::sizes(left, right);
+fn borrowed(random: &mut Random, given: &Given) -> Borrowed {
+    let Given { tick_length, left, right } = given;
+    let sizes = cases::sizes(given);
     let (rows, width) = sizes.unwrap_or((10, 10));
     let keep = cases::length(random, rows.div_ceil(8));
     let (back, line) = match cases::too_large(sizes) {
@@ -179,7 +191,7 @@ fn borrowed(random: &mut Random, left: &[u8], right: &[u8]) -> Borrowed {
     let mut run = random.below(4);
     if !cases::too_large(sizes) {
         let (mut back, mut line) = (vec![0; rows * width], vec![0; rows * width]);
-        let answer = plain::search(left, right, &mut [0; 512], &mut back, &mut line, &mut []);
+        let answer = plain::search(*tick_length, left, right, &mut [0; 512], &mut back, &mut line, &mut []);
         let steps = match answer {
             Err(plain::Refusal { code: RUN_TOO_SHORT, p, .. }) => p,
             answer => answer.unwrap_or(0),
@@ -194,22 +206,26 @@ fn borrowed(random: &mut Random, left: &[u8], right: &[u8]) -> Borrowed {
     }
 }
 
-pub fn check(random: &mut Random, other: &dyn Operations, (left, right): Texts) -> Made {
-    let sizes = cases::sizes(&left, &right);
-    let table = cases::table(random, &left, &right, sizes);
+pub fn check(random: &mut Random, other: &dyn Operations, given: Given) -> Made {
+    let sizes = cases::sizes(&given);
+    let table = cases::table(random, &given, sizes);
+    let Given { tick_length, left, right } = given;
     let length = cases::length(random, sizes.map_or(4, |(rows, _)| rows.div_ceil(8)));
     let mut of_library = lent_bytes(random, length);
     let mut of_other = of_library.clone();
-    let returned = Build::LINKED.check(&left, &right, of_library.slice(), &table);
-    let answer = other.check(&left, &right, of_other.slice(), &table);
+    let both = Both {
+        library: Build::LINKED.check(tick_length, &left, &right, of_library.slice(), &table),
+        other: other.check(tick_length, &left, &right, of_other.slice(), &table),
+    };
     let given = vec![("left", left), ("right", right), ("table", table)];
-    let mut made = Made::new(returned, answer, given, format!("keep {length}"));
+    let mut made = Made::new(both, tick_length, given, format!("keep {length}"));
     made.compare_lent("keep", &of_library, &of_other);
     made
 }
 
-pub fn widest(random: &mut Random, other: &dyn Operations, (left, right): Texts) -> Made {
-    let sizes = cases::sizes(&left, &right);
+pub fn widest(random: &mut Random, other: &dyn Operations, given: Given) -> Made {
+    let sizes = cases::sizes(&given);
+    let Given { tick_length, left, right } = given;
     let (rows, width) = sizes.unwrap_or((10, 10));
     let need = format!("P4\n{width} {rows}\n").len() + rows * width.div_ceil(8);
     let keep = cases::length(random, rows.div_ceil(8));
@@ -219,10 +235,12 @@ pub fn widest(random: &mut Random, other: &dyn Operations, (left, right): Texts)
     };
     let (mut of_library, mut table_of_library) = (lent_bytes(random, keep), lent_bytes(random, table));
     let (mut of_other, mut table_of_other) = (of_library.clone(), table_of_library.clone());
-    let returned = Build::LINKED.widest(&left, &right, of_library.slice(), table_of_library.slice());
-    let answer = other.widest(&left, &right, of_other.slice(), table_of_other.slice());
+    let both = Both {
+        library: Build::LINKED.widest(tick_length, &left, &right, of_library.slice(), table_of_library.slice()),
+        other: other.widest(tick_length, &left, &right, of_other.slice(), table_of_other.slice()),
+    };
     let given = vec![("left", left), ("right", right)];
-    let mut made = Made::new(returned, answer, given, format!("keep, table {:?}", [keep, table]));
+    let mut made = Made::new(both, tick_length, given, format!("keep, table {:?}", [keep, table]));
     made.compare_lent("keep", &of_library, &of_other);
     made.compare_lent("table", &table_of_library, &table_of_other);
     made

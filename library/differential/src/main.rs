@@ -6,14 +6,16 @@
 //!
 //! With the word `before` the library is compared with an older build of it instead, a shared object that
 //! MEGZHOI_BEFORE names, on pairs of texts by kind and random ones; MEGZHOI_PAIRS is their number (4,000).
-//! MEGZHOI_STRICT=0 passes over pairs with a strict sign, for an older build that does not read it.
+//! MEGZHOI_STRICT=0 passes over pairs with a strict sign, for an older build that does not read it. Whether the older
+//! build takes a tick length is seen from what it answers; where it does not, both are called with 1.
 
 #![forbid(unsafe_code)]
 
 mod cases;
 mod compare;
 
-use boundary::{Build, ByPairs, Operations};
+use boundary::{Build, ByPairs, Operations, ONLY_TICK};
+use cases::Given;
 use compare::Made;
 use std::panic::{catch_unwind, AssertUnwindSafe};
 use std::process::ExitCode;
@@ -34,45 +36,57 @@ const WIDEST: usize = 4;
 const IMPLEMENTATION: usize = 5;
 
 const OPERATIONS: [Operation; 6] = [
-    Operation { name: "read", call: compare::read, codes: &[0, 1, 2, 3, 4, 5, 6, 7, 8, 9, 10, 11], two_texts: false },
+    Operation {
+        name: "read",
+        call: compare::read,
+        codes: &[0, 1, 2, 3, 4, 5, 6, 7, 8, 9, 10, 11, 24],
+        two_texts: false,
+    },
     Operation {
         name: "safe states",
         call: compare::safe_states,
-        codes: &[0, 1, 2, 3, 4, 5, 6, 7, 8, 9, 10, 11, 13],
+        codes: &[0, 1, 2, 3, 4, 5, 6, 7, 8, 9, 10, 11, 13, 24],
         two_texts: false,
     },
     Operation {
         name: "search",
         call: |random| on_two_texts(compare::search, random),
-        codes: &[0, 1, 2, 3, 4, 5, 6, 7, 8, 9, 10, 11, 12, 13, 15, 17, 21],
+        codes: &[0, 1, 2, 3, 4, 5, 6, 7, 8, 9, 10, 11, 12, 13, 15, 17, 21, 24],
         two_texts: true,
     },
     Operation {
         name: "check",
         call: |random| on_two_texts(compare::check, random),
-        codes: &[0, 1, 2, 3, 4, 5, 6, 7, 8, 9, 10, 11, 12, 13, 16, 17, 18, 19, 20],
+        codes: &[0, 1, 2, 3, 4, 5, 6, 7, 8, 9, 10, 11, 12, 13, 16, 17, 18, 19, 20, 24],
         two_texts: true,
     },
     Operation {
         name: "widest",
         call: |random| on_two_texts(compare::widest, random),
-        codes: &[0, 1, 2, 3, 4, 5, 6, 7, 8, 9, 10, 11, 12, 13, 14, 17],
+        codes: &[0, 1, 2, 3, 4, 5, 6, 7, 8, 9, 10, 11, 12, 13, 14, 17, 24],
         two_texts: true,
     },
     Operation {
         name: "implementation",
-        call: |random| compare::implementation(&ByPairs, cases::text_to_judge(random)).expect("both have it"),
-        codes: &[0, 1, 2, 3, 4, 5, 6, 7, 8, 9, 10, 11, 22, 23],
+        call: on_text_to_judge,
+        codes: &[0, 1, 2, 3, 4, 5, 6, 7, 8, 9, 10, 11, 22, 23, 24],
         two_texts: false,
     },
 ];
 
 /// A call on two texts, compared with another's.
-type OnTwoTexts = fn(&mut Random, &dyn Operations, (Vec<u8>, Vec<u8>)) -> Made;
+type OnTwoTexts = fn(&mut Random, &dyn Operations, Given) -> Made;
 
 fn on_two_texts(call: OnTwoTexts, random: &mut Random) -> Made {
-    let texts = cases::two_texts(random);
-    call(random, &ByPairs, texts)
+    let tick_length = cases::tick_length(random);
+    let (left, right) = cases::two_texts(random, tick_length);
+    call(random, &ByPairs, Given { tick_length, left, right })
+}
+
+fn on_text_to_judge(random: &mut Random) -> Made {
+    let tick_length = cases::tick_length(random);
+    let text = cases::text_to_judge(random, tick_length);
+    compare::implementation(&ByPairs, tick_length, text).expect("both have it")
 }
 
 /// The calls made on each pair of texts to hold two builds against each other, by their place in `OPERATIONS`:
@@ -153,12 +167,12 @@ fn run_before() -> ExitCode {
     let mut passed_over = 0;
     for seed in (0..pairs).map(|i| first.wrapping_add(i)) {
         let random = &mut random_of(seed);
-        let texts = if random.chance(75) { cases::two_of_a_kind(random) } else { cases::two_texts(random) };
-        if !strict && (has_strict_sign(&texts.0) || has_strict_sign(&texts.1)) {
+        let given = pair_for(&before, random);
+        if !strict && (has_strict_sign(&given.left) || has_strict_sign(&given.right)) {
             passed_over += 1;
             continue;
         }
-        if !agrees_on_a_pair(&mut counts, &before, random, &texts) {
+        if !agrees_on_a_pair(&mut counts, &before, random, &given) {
             println!("repeat with MEGZHOI_SEED={seed} MEGZHOI_PAIRS=1");
             return ExitCode::FAILURE;
         }
@@ -167,26 +181,38 @@ fn run_before() -> ExitCode {
     if !has_implementation(&before) {
         println!("the older build has no implementation check, and that of this one was not compared");
     }
+    if !before.takes_tick_length() {
+        println!("the older build takes no tick length, and both were called with {ONLY_TICK}");
+    }
     let compared = pairs - passed_over;
     println!("{compared} pairs of texts from seed {first}: no difference from the older build");
     ExitCode::SUCCESS
 }
 
+/// Two texts of a kind or, every fourth time, random ones, at a tick length that the older build can be called with.
+fn pair_for(before: &Build, random: &mut Random) -> Given {
+    let tick_length = if before.takes_tick_length() { cases::tick_length(random) } else { ONLY_TICK };
+    let make = if random.chance(75) { cases::two_of_a_kind } else { cases::two_texts };
+    let (left, right) = make(random, tick_length);
+    Given { tick_length, left, right }
+}
+
 /// An older build may lack the implementation check; what it says of an empty text does not matter here.
 fn has_implementation(before: &Build) -> bool {
-    before.implementation(&[]).is_some()
+    before.implementation(ONLY_TICK, &[]).is_some()
 }
 
 /// The calls on two texts and, where the older build has it, the implementation check of both and of a third one.
-fn agrees_on_a_pair(counts: &mut Counts, before: &Build, random: &mut Random, texts: &(Vec<u8>, Vec<u8>)) -> bool {
+fn agrees_on_a_pair(counts: &mut Counts, before: &Build, random: &mut Random, given: &Given) -> bool {
     for (operation, call) in ON_A_PAIR {
-        if !agrees(counts, operation, || call(random, before, texts.clone())) {
+        if !agrees(counts, operation, || call(random, before, given.clone())) {
             return false;
         }
     }
-    let judge = |text: &Vec<u8>| compare::implementation(before, text.clone()).expect("both have it");
-    let third = cases::text_to_judge(random);
-    let mut to_judge = [&texts.0, &texts.1, &third].into_iter().filter(|_| has_implementation(before));
+    let judge =
+        |text: &Vec<u8>| compare::implementation(before, given.tick_length, text.clone()).expect("both have it");
+    let third = cases::text_to_judge(random, given.tick_length);
+    let mut to_judge = [&given.left, &given.right, &third].into_iter().filter(|_| has_implementation(before));
     to_judge.all(|text| agrees(counts, IMPLEMENTATION, || judge(text)))
 }
 
@@ -207,6 +233,7 @@ fn agrees(counts: &mut Counts, operation: usize, call: impl FnOnce() -> Made) ->
 }
 
 fn report(made: &Made) {
+    println!("tick length: {}", made.tick_length);
     println!("lengths: {}", made.lengths);
     for (what, bytes) in &made.given {
         println!("{what} ({} bytes): {}", bytes.len(), bytes.escape_ascii());

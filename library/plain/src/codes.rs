@@ -23,9 +23,10 @@ pub const RULE_BROKEN: usize = 20;
 pub const RUN_TOO_SHORT: usize = 21;
 pub const OUTPUT_BESIDE_TICK: usize = 22;
 pub const NEITHER_POSSIBLE: usize = 23;
+pub const TICK_OUT_OF_RANGE: usize = 24;
 
 /// Every code with its name.
-pub const ALL: [(&str, usize); 23] = [
+pub const ALL: [(&str, usize); 24] = [
     ("TEXT_TOO_LONG", TEXT_TOO_LONG),
     ("MISFIT", MISFIT),
     ("NAME_TOO_LONG", NAME_TOO_LONG),
@@ -49,4 +50,5 @@ pub const ALL: [(&str, usize); 23] = [
     ("RUN_TOO_SHORT", RUN_TOO_SHORT),
     ("OUTPUT_BESIDE_TICK", OUTPUT_BESIDE_TICK),
     ("NEITHER_POSSIBLE", NEITHER_POSSIBLE),
+    ("TICK_OUT_OF_RANGE", TICK_OUT_OF_RANGE),
 ];

@@ -2,7 +2,8 @@
 //!
 //! Nothing here is proved. It was written from the rules alone, without the proved code, and serves
 //! two ends: the differential test compares the verified library with it, and the benchmark measures
-//! the library against it. Left means the draft, right the contract.
+//! the library against it. Left means the draft, right the contract. Each operation takes the tick length first, in
+//! milliseconds (SPECIFICATION 4.7).
 
 #![forbid(unsafe_code)]
 
@@ -57,6 +58,9 @@ pub struct Widest {
 /// A text longer than this is refused with code 1.
 const TEXT_LIMIT: usize = 32_768;
 
+/// The longest tick in milliseconds; the shortest is 1.
+pub const TICK_LIMIT: usize = 60_000;
+
 /// Two texts that were read and whose channels pair up, ready for a walk over pairs of states.
 struct Pair {
     left: System,
@@ -65,16 +69,14 @@ struct Pair {
     safe: SafeSet,
 }
 
-/// Reads a text and judges codes 1 to 11.
-pub fn read(text: &[u8]) -> Result<Record, Refusal> {
-    judge_length(text, 1)?;
-    read_text(text, 1).map(|(record, _)| record)
+/// Reads a text and judges codes 24 and 1 to 11.
+pub fn read(tick_length: usize, text: &[u8]) -> Result<Record, Refusal> {
+    read_one(tick_length, text).map(|(record, _)| record)
 }
 
 /// Marks the safe states in `keep` and counts them.
-pub fn safe_states(text: &[u8], keep: &mut [u8]) -> Result<Safe, Refusal> {
-    judge_length(text, 1)?;
-    let (_, system) = read_text(text, 1)?;
+pub fn safe_states(tick_length: usize, text: &[u8], keep: &mut [u8]) -> Result<Safe, Refusal> {
+    let (_, system) = read_one(tick_length, text)?;
     judge_keep(system.states, keep)?;
     let safe = SafeSet::of(&system);
     write_keep(&safe, keep);
@@ -82,14 +84,14 @@ pub fn safe_states(text: &[u8], keep: &mut [u8]) -> Result<Safe, Refusal> {
 }
 
 /// Judges whether the text is an implementation (SPECIFICATION 8.6): codes 22 and 23 after those of reading.
-pub fn implementation(text: &[u8]) -> Result<(), Refusal> {
-    judge_length(text, 1)?;
-    let (_, system) = read_text(text, 1)?;
+pub fn implementation(tick_length: usize, text: &[u8]) -> Result<(), Refusal> {
+    let (_, system) = read_one(tick_length, text)?;
     implementation::judge(&system).map_err(|fault| Refusal::new(fault.code, 1, fault.p, fault.q))
 }
 
 /// Searches for the least of the shortest departures; gives its length, 0 if there is none.
 pub fn search(
+    tick_length: usize,
     left: &[u8],
     right: &[u8],
     keep: &mut [u8],
@@ -97,27 +99,34 @@ pub fn search(
     line: &mut [u32],
     run: &mut [u32],
 ) -> Result<usize, Refusal> {
-    search_counted(left, right, keep, back, line, run).map(|(steps, _)| steps)
+    search_counted(tick_length, left, right, keep, back, line, run).map(|(steps, _)| steps)
 }
 
 /// Checks that the given table is a refinement relation; gives the number of its pairs.
-pub fn check(left: &[u8], right: &[u8], keep: &mut [u8], table: &[u8]) -> Result<usize, Refusal> {
-    check_with(left, right, keep, table, table::check)
+pub fn check(tick_length: usize, left: &[u8], right: &[u8], keep: &mut [u8], table: &[u8]) -> Result<usize, Refusal> {
+    check_with(tick_length, left, right, keep, table, table::check)
 }
 
 /// The same by rows of 64 pairs a word.
-pub fn check_by_rows(left: &[u8], right: &[u8], keep: &mut [u8], table: &[u8]) -> Result<usize, Refusal> {
-    check_with(left, right, keep, table, rows::check)
+pub fn check_by_rows(
+    tick_length: usize,
+    left: &[u8],
+    right: &[u8],
+    keep: &mut [u8],
+    table: &[u8],
+) -> Result<usize, Refusal> {
+    check_with(tick_length, left, right, keep, table, rows::check)
 }
 
 fn check_with(
+    tick_length: usize,
     left: &[u8],
     right: &[u8],
     keep: &mut [u8],
     table: &[u8],
     judge: fn(&Pair, &table::Shape, &[u8]) -> Result<usize, Refusal>,
 ) -> Result<usize, Refusal> {
-    let pair = read_pair(left, right)?;
+    let pair = read_pair(tick_length, left, right)?;
     judge_keep(pair.left.states, keep)?;
     let shape = table::Shape::of(&pair);
     if !shape.fits(table) {
@@ -129,23 +138,36 @@ fn check_with(
 }
 
 /// Writes the largest refinement relation as a table; gives its pairs and whether the start is one.
-pub fn widest(left: &[u8], right: &[u8], keep: &mut [u8], table: &mut [u8]) -> Result<Widest, Refusal> {
-    widest_with(left, right, keep, table, table::widest)
+pub fn widest(
+    tick_length: usize,
+    left: &[u8],
+    right: &[u8],
+    keep: &mut [u8],
+    table: &mut [u8],
+) -> Result<Widest, Refusal> {
+    widest_with(tick_length, left, right, keep, table, table::widest)
 }
 
 /// The same by rows of 64 pairs a word.
-pub fn widest_by_rows(left: &[u8], right: &[u8], keep: &mut [u8], table: &mut [u8]) -> Result<Widest, Refusal> {
-    widest_with(left, right, keep, table, rows::widest)
+pub fn widest_by_rows(
+    tick_length: usize,
+    left: &[u8],
+    right: &[u8],
+    keep: &mut [u8],
+    table: &mut [u8],
+) -> Result<Widest, Refusal> {
+    widest_with(tick_length, left, right, keep, table, rows::widest)
 }
 
 fn widest_with(
+    tick_length: usize,
     left: &[u8],
     right: &[u8],
     keep: &mut [u8],
     table: &mut [u8],
     make: fn(&Pair, &table::Shape, &mut [u8]) -> Widest,
 ) -> Result<Widest, Refusal> {
-    let pair = read_pair(left, right)?;
+    let pair = read_pair(tick_length, left, right)?;
     judge_keep(pair.left.states, keep)?;
     let shape = table::Shape::of(&pair);
     if table.len() < shape.bytes() {
@@ -156,6 +178,14 @@ fn widest_with(
     Ok(make(&pair, &shape, table))
 }
 
+/// Code 24, before anything is looked at.
+fn judge_tick(tick_length: usize) -> Result<(), Refusal> {
+    if (1..=TICK_LIMIT).contains(&tick_length) {
+        return Ok(());
+    }
+    Err(Refusal::new(codes::TICK_OUT_OF_RANGE, 0, tick_length, 0))
+}
+
 fn judge_length(text: &[u8], file: usize) -> Result<(), Refusal> {
     if text.len() > TEXT_LIMIT {
         return Err(Refusal::new(codes::TEXT_TOO_LONG, file, 0, 0));
@@ -163,20 +193,28 @@ fn judge_length(text: &[u8], file: usize) -> Result<(), Refusal> {
     Ok(())
 }
 
-/// Reads one text whose length was judged before: codes 2 to 11.
-fn read_text(text: &[u8], file: usize) -> Result<(Record, System), Refusal> {
+/// Reads the text of an operation on one text: codes 24 and 1 to 11.
+fn read_one(tick_length: usize, text: &[u8]) -> Result<(Record, System), Refusal> {
+    judge_tick(tick_length)?;
+    judge_length(text, 1)?;
+    read_text(tick_length, text, 1)
+}
+
+/// Reads one text; the tick length and the text's length were judged before: codes 2 to 11.
+fn read_text(tick_length: usize, text: &[u8], file: usize) -> Result<(Record, System), Refusal> {
     let marked = |fault: record::Fault| Refusal::new(fault.code, file, fault.p, fault.q);
-    let mut record = reader::read(text).map_err(marked)?;
+    let mut record = reader::read(tick_length, text).map_err(marked)?;
     let system = System::of(&mut record).map_err(marked)?;
     Ok((record, system))
 }
 
-/// Reads both texts, pairs their channels and finds the left's safe states: codes 1 to 12.
-fn read_pair(left: &[u8], right: &[u8]) -> Result<Pair, Refusal> {
+/// Reads both texts, pairs their channels and finds the left's safe states: codes 24 and 1 to 12.
+fn read_pair(tick_length: usize, left: &[u8], right: &[u8]) -> Result<Pair, Refusal> {
+    judge_tick(tick_length)?;
     judge_length(left, 1)?;
     judge_length(right, 2)?;
-    let (left_record, mut left_system) = read_text(left, 1)?;
-    let (right_record, right_system) = read_text(right, 2)?;
+    let (left_record, mut left_system) = read_text(tick_length, left, 1)?;
+    let (right_record, right_system) = read_text(tick_length, right, 2)?;
     let partner = pairing::partners(left, &left_record, right, &right_record)?;
     let right_system = right_system.reordered(&partner);
     let safe = SafeSet::of(&left_system);

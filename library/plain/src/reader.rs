@@ -7,15 +7,19 @@
 use crate::codes;
 use crate::record::*;
 use crate::token::{Kind, Token, Tokens};
+use crate::TICK_LIMIT;
 
 const NAME_LIMIT: usize = 31;
+/// In ticks.
 const CONSTANT_LIMIT: usize = 1_000;
+/// No tick length in range brings a numeral of this value down to the limit.
+const ALWAYS_TOO_LARGE: usize = (CONSTANT_LIMIT + 1) * TICK_LIMIT;
 
 type Read<T> = Result<T, Fault>;
 
-/// Reads a text; the record's state count is left 0.
-pub fn read(text: &[u8]) -> Read<Record> {
-    let mut reader = Reader::new(text);
+/// Reads a text at a tick length that is in range; the record's state count is left 0.
+pub fn read(tick_length: usize, text: &[u8]) -> Read<Record> {
+    let mut reader = Reader::new(tick_length, text);
     reader.channels()?;
     let process = reader.process()?;
     reader.clocks(process)?;
@@ -27,6 +31,7 @@ pub fn read(text: &[u8]) -> Read<Record> {
 }
 
 struct Reader<'a> {
+    tick_length: usize,
     text: &'a [u8],
     tokens: Tokens<'a>,
     token: Token,
@@ -38,7 +43,7 @@ fn fault<T>(code: usize, place: usize) -> Read<T> {
 }
 
 impl<'a> Reader<'a> {
-    fn new(text: &'a [u8]) -> Reader<'a> {
+    fn new(tick_length: usize, text: &'a [u8]) -> Reader<'a> {
         let mut tokens = Tokens::new(text);
         let token = tokens.next();
         let record = Record {
@@ -49,7 +54,7 @@ impl<'a> Reader<'a> {
             edges: Vec::with_capacity(EDGE_LIMIT),
             states: 0,
         };
-        Reader { text, tokens, token, record }
+        Reader { tick_length, text, tokens, token, record }
     }
 
     fn at(&self, kind: Kind) -> bool {
@@ -268,7 +273,7 @@ impl<'a> Reader<'a> {
         }
     }
 
-    /// A list of comparisons; an invariant has `<` and `<=` only, and no 0 after `<` (SPECIFICATION 3.2).
+    /// A list of comparisons; an invariant has `<` and `<=` only, and no 0 ticks after `<` (SPECIFICATION 3.2).
     fn comparisons(&mut self, in_guard: bool) -> Read<Comparisons> {
         let mut list = Comparisons::none();
         loop {
@@ -303,11 +308,12 @@ impl<'a> Reader<'a> {
         Ok(sign)
     }
 
+    /// A constant in ticks.
     fn bound(&mut self) -> Read<usize> {
         if !self.at(Kind::Numeral) {
             return self.misfit();
         }
-        let bound = self.value();
+        let bound = self.ticks(self.value());
         if bound > CONSTANT_LIMIT {
             return fault(codes::CONSTANT_TOO_LARGE, self.token.start);
         }
@@ -315,10 +321,16 @@ impl<'a> Reader<'a> {
         Ok(bound)
     }
 
-    /// The value of the numeral at hand; anything over the limit counts as just over it.
+    /// Milliseconds as whole ticks: up where what is left over is half a tick or more (SPECIFICATION 4.7).
+    fn ticks(&self, milliseconds: usize) -> usize {
+        let (whole, left_over) = (milliseconds / self.tick_length, milliseconds % self.tick_length);
+        whole + usize::from(2 * left_over >= self.tick_length)
+    }
+
+    /// The value of the numeral at hand; what is too large at every tick length counts as the least such value.
     fn value(&self) -> usize {
         let digits = &self.text[self.token.start..self.token.end];
-        let next = |value: usize, digit: &u8| (10 * value + usize::from(digit - b'0')).min(CONSTANT_LIMIT + 1);
+        let next = |value: usize, digit: &u8| (10 * value + usize::from(digit - b'0')).min(ALWAYS_TOO_LARGE);
         digits.iter().fold(0, next)
     }
 

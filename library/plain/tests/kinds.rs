@@ -3,12 +3,15 @@
 
 use texts::kinds::{departing, texts, Kind, CHANNELS, KINDS};
 
+/// The tick length with which a constant is as many ticks as it says.
+const TICK: usize = 1;
+
 /// States of the left and the right, pairs of the widest table and whether the start is one of them.
 fn sizes((left, right): &(Vec<u8>, Vec<u8>), name: &str) -> (usize, usize, plain::Widest) {
-    let count = |text: &[u8]| plain::read(text).map(|record| record.states);
+    let count = |text: &[u8]| plain::read(TICK, text).map(|record| record.states);
     let (rows, width) = (count(left).expect(name), count(right).expect(name));
     let mut table = vec![0; 20 + rows * width.div_ceil(8)];
-    let answer = plain::widest_by_rows(left, right, &mut [0; 512], &mut table);
+    let answer = plain::widest_by_rows(TICK, left, right, &mut [0; 512], &mut table);
     (rows, width, answer.expect(name))
 }
 

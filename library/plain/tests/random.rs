@@ -7,6 +7,9 @@ use plain::codes::OUTPUT_BESIDE_TICK;
 use std::collections::HashSet;
 use texts::{urgent, Model, Random};
 
+/// The tick length with which a constant is as many ticks as it says.
+const TICK: usize = 1;
+
 /// Runs up to this length are enumerated.
 const DEPTH: usize = 7;
 
@@ -17,7 +20,7 @@ fn show(text: &[u8]) -> String {
 /// Compares code 10 or 11 and the safe states; says whether the text is accepted.
 fn compare_one(model: &Model, text: &[u8]) -> bool {
     let naive = Naive::new(model);
-    let answer = plain::read(text);
+    let answer = plain::read(TICK, text);
     if let Some((code, state, channel)) = naive.fault() {
         let refusal = plain::Refusal { code, file: 1, p: state, q: channel };
         assert_eq!(answer, Err(refusal), "{}", show(text));
@@ -25,7 +28,7 @@ fn compare_one(model: &Model, text: &[u8]) -> bool {
     }
     assert_eq!(answer.map(|record| record.states), Ok(naive.count()), "{}", show(text));
     let mut keep = vec![0; naive.count().div_ceil(8)];
-    let answer = plain::safe_states(text, &mut keep).unwrap();
+    let answer = plain::safe_states(TICK, text, &mut keep).unwrap();
     let safe = naive.safe();
     for state in &naive.states {
         let number = naive.number(state);
@@ -41,7 +44,7 @@ fn compare_one(model: &Model, text: &[u8]) -> bool {
 fn compare_implementation(model: &Model, text: &[u8]) -> usize {
     let fault = Naive::new(model).implementation_fault();
     let expected = fault.map_or(Ok(()), |(code, p, q)| Err(plain::Refusal { code, file: 1, p, q }));
-    assert_eq!(plain::implementation(text), expected, "{}", show(text));
+    assert_eq!(plain::implementation(TICK, text), expected, "{}", show(text));
     fault.map_or(0, |(code, _, _)| code)
 }
 
@@ -52,7 +55,7 @@ fn compare_two(left: &Model, right: &Model, texts: (&[u8], &[u8])) -> Option<usi
     let (rows, width) = (of_left.count(), of_right.count());
     let mut keep = vec![0; rows];
     let mut table = vec![0; 100 + rows * width];
-    let answer = plain::widest(texts.0, texts.1, &mut keep, &mut table);
+    let answer = plain::widest(TICK, texts.0, texts.1, &mut keep, &mut table);
     if !of_left.safe().contains(&of_left.start()) {
         let start = of_left.number(&of_left.start());
         assert_eq!(answer, Err(plain::Refusal { code: 17, file: 1, p: start, q: 0 }), "{names}");
@@ -66,7 +69,7 @@ fn compare_two(left: &Model, right: &Model, texts: (&[u8], &[u8])) -> Option<usi
     assert_eq!(answer.unwrap().pairs, made.len());
     let (mut back, mut line) = (vec![0; rows * width], vec![0; rows * width]);
     let mut run = vec![0; rows * width];
-    let n = plain::search(texts.0, texts.1, &mut keep, &mut back, &mut line, &mut run).unwrap();
+    let n = plain::search(TICK, texts.0, texts.1, &mut keep, &mut back, &mut line, &mut run).unwrap();
     assert_eq!(n == 0, answer.unwrap().start, "{names}");
     match naive::departure(&of_left, &of_right, DEPTH) {
         Some(steps) => assert_eq!(run[..n], steps, "{names}"),
@@ -84,7 +87,7 @@ fn fast_and_naive_agree() {
         let left = if random.chance(70) { right.varied(random) } else { right.clone() };
         let texts = (left.text(random), right.text(random));
         let both = compare_one(&left, &texts.0) & compare_one(&right, &texts.1);
-        let paired = plain::search(&texts.0, &texts.1, &mut [0; 512], &mut [], &mut [], &mut []);
+        let paired = plain::search(TICK, &texts.0, &texts.1, &mut [0; 512], &mut [], &mut [], &mut []);
         if !both || paired.is_err_and(|refusal| refusal.code == 12) {
             continue;
         }

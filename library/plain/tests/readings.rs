@@ -2,10 +2,13 @@
 
 use plain::{read, search, Refusal};
 
+/// The tick length with which a constant is as many ticks as it says.
+const TICK: usize = 1;
+
 /// Code and place for a text in which `#` marks the place that is refused; without `#` it is accepted.
 fn judged(code: usize, text: &str) {
     let place = text.find('#');
-    let answer = read(text.replace('#', "").as_bytes()).map(|_| ());
+    let answer = read(TICK, text.replace('#', "").as_bytes()).map(|_| ());
     let expected = place.map_or(Ok(()), |p| Err(Refusal { code, file: 1, p, q: 0 }));
     assert_eq!(answer, expected, "{text}");
 }
@@ -97,9 +100,9 @@ fn strict_signs() {
 #[test]
 fn strict_constants_count_as_written() {
     for (guard, states) in [("x < 5", 7), ("x > 5", 7), ("x < 0", 2), ("x > 0", 2), ("x <= 4 && x < 5", 7)] {
-        assert_eq!(read(with_guard(guard).as_bytes()).unwrap().states, states, "{guard}");
+        assert_eq!(read(TICK, with_guard(guard).as_bytes()).unwrap().states, states, "{guard}");
     }
-    assert_eq!(read(with_invariant("x < 5").as_bytes()).unwrap().states, 7);
+    assert_eq!(read(TICK, with_invariant("x < 5").as_bytes()).unwrap().states, 7);
 }
 
 /// Code and state for an input that has an edge by each of the guards (an empty one: no guard).
@@ -111,7 +114,7 @@ fn strict_guards_of_an_input() {
     };
     let judged = |guards: &[&str]| {
         let edges: Vec<String> = guards.iter().map(edge).collect();
-        read(with_edges(&edges.join(", ")).as_bytes()).err().map(|refusal| (refusal.code, refusal.p, refusal.q))
+        read(TICK, with_edges(&edges.join(", ")).as_bytes()).err().map(|refusal| (refusal.code, refusal.p, refusal.q))
     };
     assert_eq!(judged(&["x < 3", "x >= 3"]), None);
     assert_eq!(judged(&["x <= 3", "x > 3"]), None);
@@ -167,14 +170,14 @@ fn states_are_counted_exactly() {
          L0 -> L0 {{ {guards} sync a!; }}; }} system P;",
         names.join(",")
     );
-    assert_eq!(read(text.as_bytes()), Err(Refusal { code: 9, file: 1, p: 32_192_384_256, q: 0 }));
+    assert_eq!(read(TICK, text.as_bytes()), Err(Refusal { code: 9, file: 1, p: 32_192_384_256, q: 0 }));
 }
 
 #[test]
 fn lengths_come_before_all_reading() {
     let long = vec![b' '; 32_769];
     let refused = |file| Err(Refusal { code: 1, file, p: 0, q: 0 });
-    let found = |left: &[u8], right: &[u8]| search(left, right, &mut [], &mut [], &mut [], &mut []);
+    let found = |left: &[u8], right: &[u8]| search(TICK, left, right, &mut [], &mut [], &mut [], &mut []);
     assert_eq!(found(b"?", &long), refused(2));
     assert_eq!(found(&long, &long), refused(1));
     assert_eq!(found(b"?", &long[1..]), Err(Refusal { code: 2, file: 1, p: 0, q: 0 }));

@@ -3,6 +3,9 @@
 use texts::kinds::{texts, Kind, KINDS};
 use texts::{Model, Random};
 
+/// The tick length with which a constant is as many ticks as it says.
+const TICK: usize = 1;
+
 /// Bytes of `keep` for any text.
 const KEEP: usize = 512;
 
@@ -16,7 +19,7 @@ struct Raster {
 
 impl Raster {
     fn of(left: &[u8], right: &[u8]) -> Option<Raster> {
-        let (rows, width) = (plain::read(left).ok()?.states, plain::read(right).ok()?.states);
+        let (rows, width) = (plain::read(TICK, left).ok()?.states, plain::read(TICK, right).ok()?.states);
         Some(Raster { header: format!("P4\n{width} {rows}\n").len(), row: width.div_ceil(8), rows, width })
     }
 
@@ -29,8 +32,8 @@ impl Raster {
 fn compare_widest(left: &[u8], right: &[u8], raster: &Raster) -> Option<Vec<u8>> {
     let (mut by_pairs, mut by_rows) = (vec![0xaa; raster.bytes() + 9], vec![0xaa; raster.bytes() + 9]);
     let (mut keep, mut other) = ([0x55; KEEP], [0x55; KEEP]);
-    let answer = plain::widest(left, right, &mut keep, &mut by_pairs);
-    assert_eq!(plain::widest_by_rows(left, right, &mut other, &mut by_rows), answer);
+    let answer = plain::widest(TICK, left, right, &mut keep, &mut by_pairs);
+    assert_eq!(plain::widest_by_rows(TICK, left, right, &mut other, &mut by_rows), answer);
     assert!(by_pairs == by_rows && keep == other, "{} {}", left.escape_ascii(), right.escape_ascii());
     by_pairs.truncate(raster.bytes());
     answer.ok().map(|_| by_pairs)
@@ -38,8 +41,8 @@ fn compare_widest(left: &[u8], right: &[u8], raster: &Raster) -> Option<Vec<u8>>
 
 fn compare_check(left: &[u8], right: &[u8], table: &[u8]) -> usize {
     let (mut keep, mut other) = ([0x55; KEEP], [0x55; KEEP]);
-    let answer = plain::check(left, right, &mut keep, table);
-    assert_eq!(plain::check_by_rows(left, right, &mut other, table), answer);
+    let answer = plain::check(TICK, left, right, &mut keep, table);
+    assert_eq!(plain::check_by_rows(TICK, left, right, &mut other, table), answer);
     assert!(keep == other);
     answer.map_or_else(|refusal| refusal.code, |_| 0)
 }

@@ -3,6 +3,9 @@
 use plain::{implementation, read, Refusal};
 use texts::{passive, relay, scaled_post, Reach};
 
+/// The tick length with which a constant is as many ticks as it says.
+const TICK: usize = 1;
+
 const SIZES: [usize; 3] = [10, 32, 64];
 
 fn both_possible(state: usize, channel: usize) -> Result<(), Refusal> {
@@ -14,10 +17,10 @@ fn passive_texts() {
     for (values, channels) in SIZES.into_iter().flat_map(|values| [4, 16].map(|channels| (values, channels))) {
         for reach in [Reach::All, Reach::Few, Reach::Fault] {
             let text = passive(values, channels, reach);
-            assert_eq!(read(&text).map(|record| record.states), Ok(values * values));
+            assert_eq!(read(TICK, &text).map(|record| record.states), Ok(values * values));
             let last = values * values - 1;
             let expected = if reach == Reach::Fault { both_possible(last, channels) } else { Ok(()) };
-            assert_eq!(implementation(&text), expected, "{reach:?}");
+            assert_eq!(implementation(TICK, &text), expected, "{reach:?}");
         }
     }
 }
@@ -37,17 +40,17 @@ fn reached_states() {
         let (x, y) = (state % values, state / values);
         let guard = format!("{} && {}", time("x", x), time("y", y));
         assert!(text.contains(&last));
-        assert_eq!(implementation(text.replace(&last, &guard).as_bytes()), both_possible(state, channels));
+        assert_eq!(implementation(TICK, text.replace(&last, &guard).as_bytes()), both_possible(state, channels));
         let expected = if x == y { both_possible(state, channels) } else { Ok(()) };
-        assert_eq!(implementation(equal.replace(&last, &guard).as_bytes()), expected);
+        assert_eq!(implementation(TICK, equal.replace(&last, &guard).as_bytes()), expected);
     }
 }
 
 #[test]
 fn relays_and_posts() {
     for values in SIZES {
-        assert_eq!(read(&relay(values)).map(|record| record.states), Ok(32 * values));
-        assert_eq!(implementation(&relay(values)), Ok(()));
-        assert_eq!(implementation(&scaled_post(values)), Ok(()));
+        assert_eq!(read(TICK, &relay(values)).map(|record| record.states), Ok(32 * values));
+        assert_eq!(implementation(TICK, &relay(values)), Ok(()));
+        assert_eq!(implementation(TICK, &scaled_post(values)), Ok(()));
     }
 }

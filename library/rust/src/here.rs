@@ -21,10 +21,10 @@ fn answer(call: impl FnOnce(*mut usize, *mut usize, *mut usize) -> usize) -> Res
 ///
 /// # Safety
 /// The thread has [`super::STACK`] bytes of stack left.
-pub unsafe fn read(text: &[u8]) -> Result<Record, Refusal> {
+pub unsafe fn read(tick_length: usize, text: &[u8]) -> Result<Record, Refusal> {
     let mut numbers = [0; raw::RECORD_ENTRIES];
     answer(|file, p, q| unsafe {
-        raw::megzhoi_read(text.as_ptr(), text.len(), numbers.as_mut_ptr(), numbers.len(), file, p, q)
+        raw::megzhoi_read(tick_length, text.as_ptr(), text.len(), numbers.as_mut_ptr(), numbers.len(), file, p, q)
     })?;
     Ok(Record::from_numbers(&numbers))
 }
@@ -33,9 +33,9 @@ pub unsafe fn read(text: &[u8]) -> Result<Record, Refusal> {
 ///
 /// # Safety
 /// The thread has [`super::STACK`] bytes of stack left.
-pub unsafe fn safe_states(text: &[u8], keep: &mut [u8]) -> Result<Safe, Refusal> {
+pub unsafe fn safe_states(tick_length: usize, text: &[u8], keep: &mut [u8]) -> Result<Safe, Refusal> {
     let (count, start) = answer(|file, p, q| unsafe {
-        raw::megzhoi_safe_states(text.as_ptr(), text.len(), keep.as_mut_ptr(), keep.len(), file, p, q)
+        raw::megzhoi_safe_states(tick_length, text.as_ptr(), text.len(), keep.as_mut_ptr(), keep.len(), file, p, q)
     })?;
     Ok(Safe { count, start: start == 1 })
 }
@@ -44,8 +44,8 @@ pub unsafe fn safe_states(text: &[u8], keep: &mut [u8]) -> Result<Safe, Refusal>
 ///
 /// # Safety
 /// The thread has [`super::STACK`] bytes of stack left.
-pub unsafe fn implementation(text: &[u8]) -> Result<(), Refusal> {
-    answer(|file, p, q| unsafe { raw::megzhoi_implementation(text.as_ptr(), text.len(), file, p, q) })?;
+pub unsafe fn implementation(tick_length: usize, text: &[u8]) -> Result<(), Refusal> {
+    answer(|file, p, q| unsafe { raw::megzhoi_implementation(tick_length, text.as_ptr(), text.len(), file, p, q) })?;
     Ok(())
 }
 
@@ -54,6 +54,7 @@ pub unsafe fn implementation(text: &[u8]) -> Result<(), Refusal> {
 /// # Safety
 /// The thread has [`super::STACK`] bytes of stack left.
 pub unsafe fn search(
+    tick_length: usize,
     left: &[u8],
     right: &[u8],
     keep: &mut [u8],
@@ -63,7 +64,7 @@ pub unsafe fn search(
 ) -> Result<usize, Refusal> {
     let (n, _) = answer(|file, p, q| unsafe {
         raw::megzhoi_search(
-            left.as_ptr(), left.len(), right.as_ptr(), right.len(), keep.as_mut_ptr(), keep.len(),
+            tick_length, left.as_ptr(), left.len(), right.as_ptr(), right.len(), keep.as_mut_ptr(), keep.len(),
             back.as_mut_ptr(), back.len(), line.as_mut_ptr(), line.len(), run.as_mut_ptr(), run.len(), file, p, q,
         )
     })?;
@@ -74,10 +75,16 @@ pub unsafe fn search(
 ///
 /// # Safety
 /// The thread has [`super::STACK`] bytes of stack left.
-pub unsafe fn check(left: &[u8], right: &[u8], keep: &mut [u8], table: &[u8]) -> Result<usize, Refusal> {
+pub unsafe fn check(
+    tick_length: usize,
+    left: &[u8],
+    right: &[u8],
+    keep: &mut [u8],
+    table: &[u8],
+) -> Result<usize, Refusal> {
     let (pairs, _) = answer(|file, p, q| unsafe {
         raw::megzhoi_check(
-            left.as_ptr(), left.len(), right.as_ptr(), right.len(), keep.as_mut_ptr(), keep.len(),
+            tick_length, left.as_ptr(), left.len(), right.as_ptr(), right.len(), keep.as_mut_ptr(), keep.len(),
             table.as_ptr(), table.len(), file, p, q,
         )
     })?;
@@ -88,10 +95,16 @@ pub unsafe fn check(left: &[u8], right: &[u8], keep: &mut [u8], table: &[u8]) ->
 ///
 /// # Safety
 /// The thread has [`super::STACK`] bytes of stack left.
-pub unsafe fn widest(left: &[u8], right: &[u8], keep: &mut [u8], table: &mut [u8]) -> Result<Widest, Refusal> {
+pub unsafe fn widest(
+    tick_length: usize,
+    left: &[u8],
+    right: &[u8],
+    keep: &mut [u8],
+    table: &mut [u8],
+) -> Result<Widest, Refusal> {
     let (pairs, start) = answer(|file, p, q| unsafe {
         raw::megzhoi_widest(
-            left.as_ptr(), left.len(), right.as_ptr(), right.len(), keep.as_mut_ptr(), keep.len(),
+            tick_length, left.as_ptr(), left.len(), right.as_ptr(), right.len(), keep.as_mut_ptr(), keep.len(),
             table.as_mut_ptr(), table.len(), file, p, q,
         )
     })?;

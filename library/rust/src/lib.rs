@@ -4,6 +4,10 @@
 //! rules. Every slice is the caller's: [`read`] gives the numbers of states, and [`keep_bytes`], [`table_bytes`] and
 //! [`queue_entries`] say from these how long the slices are.
 //!
+//! Each operation takes the tick length first, 1 to [`TICK_LIMIT`] milliseconds, one for both texts: a constant of c
+//! milliseconds comes to c / tick length ticks, the nearest whole number, an exact half upward. With 1 the constants
+//! are ticks. Any other length is refused with [`Code::TickOutOfRange`] before a text is looked at.
+//!
 //! ```
 //! use megzhoi::{check, keep_bytes, queue_entries, read, search, table_bytes, widest};
 //!
@@ -12,21 +16,22 @@
 //! # }
 //! # fn main() -> Result<(), Box<dyn std::error::Error>> {
 //! let (draft, contract) = (example("Rearm.xta")?, example("Post.xta")?);
-//! let (left, right) = (read(&draft)?, read(&contract)?);
+//! let tick = 1; // their constants are ticks
+//! let (left, right) = (read(tick, &draft)?, read(tick, &contract)?);
 //!
 //! // A shortest run by which the draft departs from the contract.
 //! let mut keep = vec![0; keep_bytes(left.states)];
 //! let entries = queue_entries(left.states, right.states);
 //! let (mut back, mut line, mut run) = (vec![0; entries], vec![0; entries], vec![0; entries]);
-//! let n = search(&draft, &contract, &mut keep, &mut back, &mut line, &mut run)?;
+//! let n = search(tick, &draft, &contract, &mut keep, &mut back, &mut line, &mut run)?;
 //! assert_eq!(run[..n], [0, 0, 0, 2, 0]); // three ticks, the channel `spike`, a tick
 //! assert_eq!(draft[left.channels[2 - 1].name.clone()], *b"spike");
 //!
 //! // A table that shows that the contract keeps itself, made and checked again.
 //! let mut table = vec![0; table_bytes(right.states, right.states)];
-//! let made = widest(&contract, &contract, &mut keep, &mut table)?;
+//! let made = widest(tick, &contract, &contract, &mut keep, &mut table)?;
 //! assert_eq!((made.pairs, made.start), (29, true));
-//! assert_eq!(check(&contract, &contract, &mut keep, &table)?, 29);
+//! assert_eq!(check(tick, &contract, &contract, &mut keep, &table)?, 29);
 //! # Ok(())
 //! # }
 //! ```
@@ -52,6 +57,9 @@ use std::thread;
 
 /// Bytes of stack that each call is given: `MEGZHOI_STACK` of `megzhoi.h`, which says what was measured.
 pub const STACK: usize = 6 << 20;
+
+/// Milliseconds of the longest tick.
+pub const TICK_LIMIT: usize = 60_000;
 
 /// Bytes of `keep` that are enough for every text.
 pub const KEEP_BYTES: usize = 512;
@@ -82,7 +90,7 @@ fn with_stack<T: Send>(call: impl FnOnce() -> T + Send) -> T {
     })
 }
 
-/// Reads a text: its record, with the number of its states.
+/// Reads a text: its record, with the number of its states. The constants in it are in ticks.
 ///
 /// ```
 /// use megzhoi::{read, Direction, Refusal};
@@ -95,16 +103,19 @@ fn with_stack<T: Send>(call: impl FnOnce() -> T + Send) -> T {
 /// trans Off -> Off { sync go?; assign x = 0; };
 /// }
 /// system Lamp;";
-/// let record = read(text)?;
+/// let record = read(1, text)?;
 /// assert_eq!(record.states, 4); // the clock has the values 0, 1 and 2, and one for all above
 /// assert_eq!(record.channels[0].direction, Direction::Input);
 /// assert_eq!(text[record.locations[0].name.clone()], *b"Off");
 /// assert_eq!(record.edges[0].resets, [true, false, false]);
+///
+/// // The same constant in milliseconds, of ticks of 4: an exact half goes upward.
+/// assert_eq!(read(4, text)?.locations[0].invariant[0].bound, 1);
 /// # Ok::<(), Refusal>(())
 /// ```
-pub fn read(text: &[u8]) -> Result<Record, Refusal> {
+pub fn read(tick_length: usize, text: &[u8]) -> Result<Record, Refusal> {
     // SAFETY: the thread has STACK bytes of stack; this holds for the others below too.
-    with_stack(|| unsafe { here::read(text) })
+    with_stack(|| unsafe { here::read(tick_length, text) })
 }
 
 /// Finds the safe states of a text: one bit a state in `keep`, state 0 in the high bit of byte 0.
@@ -114,15 +125,15 @@ pub fn read(text: &[u8]) -> Result<Record, Refusal> {
 ///
 /// # fn main() -> Result<(), Box<dyn std::error::Error>> {
 /// # let text = std::fs::read(concat!(env!("CARGO_MANIFEST_DIR"), "/../../examples/Post.xta"))?;
-/// let mut keep = vec![0; keep_bytes(read(&text)?.states)];
-/// let safe = safe_states(&text, &mut keep)?; // of examples/Post.xta, which has 10 states
+/// let mut keep = vec![0; keep_bytes(read(1, &text)?.states)];
+/// let safe = safe_states(1, &text, &mut keep)?; // of examples/Post.xta, which has 10 states
 /// assert_eq!((safe.count, safe.start), (9, true));
 /// assert_eq!(keep, [0b1111_0111, 0b1100_0000]); // all but state 4
 /// # Ok(())
 /// # }
 /// ```
-pub fn safe_states(text: &[u8], keep: &mut [u8]) -> Result<Safe, Refusal> {
-    with_stack(|| unsafe { here::safe_states(text, keep) })
+pub fn safe_states(tick_length: usize, text: &[u8], keep: &mut [u8]) -> Result<Safe, Refusal> {
+    with_stack(|| unsafe { here::safe_states(tick_length, text, keep) })
 }
 
 /// Says whether a text is an implementation: in every state that is reachable from the start, by inputs too, a tick is
@@ -134,20 +145,20 @@ pub fn safe_states(text: &[u8], keep: &mut [u8]) -> Result<Safe, Refusal> {
 /// # fn main() -> Result<(), Box<dyn std::error::Error>> {
 /// # let post = std::fs::read_to_string(concat!(env!("CARGO_MANIFEST_DIR"), "/../../examples/Post.xta"))?;
 /// # let hush = std::fs::read(concat!(env!("CARGO_MANIFEST_DIR"), "/../../examples/Hush.xta"))?;
-/// implementation(post.as_bytes())?; // examples/Post.xta raises `late` at tick 3 and no sooner
+/// implementation(1, post.as_bytes())?; // examples/Post.xta raises `late` at tick 3 and no sooner
 ///
 /// // A post that may raise it at tick 2 as well leaves open when it does.
-/// let refusal = implementation(post.replace("x >= 3", "x >= 2").as_bytes()).unwrap_err();
+/// let refusal = implementation(1, post.replace("x >= 3", "x >= 2").as_bytes()).unwrap_err();
 /// assert_eq!((refusal.code, refusal.p, refusal.q), (Code::OutputBesideTick, 2, 3));
 ///
 /// // examples/Hush.xta forbids a fourth tick and has no output to raise instead.
-/// let refusal = implementation(&hush).unwrap_err();
+/// let refusal = implementation(1, &hush).unwrap_err();
 /// assert_eq!((refusal.code, refusal.p, refusal.q), (Code::NeitherPossible, 3, 0));
 /// # Ok(())
 /// # }
 /// ```
-pub fn implementation(text: &[u8]) -> Result<(), Refusal> {
-    with_stack(|| unsafe { here::implementation(text) })
+pub fn implementation(tick_length: usize, text: &[u8]) -> Result<(), Refusal> {
+    with_stack(|| unsafe { here::implementation(tick_length, text) })
 }
 
 /// Looks for a shortest run of the left that departs from the right: n, the number of its steps, 0 where there is
@@ -160,19 +171,20 @@ pub fn implementation(text: &[u8]) -> Result<(), Refusal> {
 /// # fn main() -> Result<(), Box<dyn std::error::Error>> {
 /// # let early = std::fs::read(concat!(env!("CARGO_MANIFEST_DIR"), "/../../examples/Early.xta"))?;
 /// # let post = std::fs::read(concat!(env!("CARGO_MANIFEST_DIR"), "/../../examples/Post.xta"))?;
-/// let entries = queue_entries(read(&early)?.states, read(&post)?.states);
+/// let entries = queue_entries(read(1, &early)?.states, read(1, &post)?.states);
 /// let (mut keep, mut back, mut line) = ([0; KEEP_BYTES], vec![0; entries], vec![0; entries]);
 /// let mut run = [0; 3];
-/// let n = search(&early, &post, &mut keep, &mut back, &mut line, &mut run)?;
+/// let n = search(1, &early, &post, &mut keep, &mut back, &mut line, &mut run)?;
 /// assert_eq!(run[..n], [0, 0, 3]); // examples/Early.xta raises `late` after two ticks
 ///
 /// // A run that is too short is refused with the number of steps that it takes.
-/// let refusal = search(&early, &post, &mut keep, &mut back, &mut line, &mut run[..2]).unwrap_err();
+/// let refusal = search(1, &early, &post, &mut keep, &mut back, &mut line, &mut run[..2]).unwrap_err();
 /// assert_eq!((refusal.code, refusal.p), (Code::RunTooShort, 3));
 /// # Ok(())
 /// # }
 /// ```
 pub fn search(
+    tick_length: usize,
     left: &[u8],
     right: &[u8],
     keep: &mut [u8],
@@ -180,7 +192,7 @@ pub fn search(
     line: &mut [u32],
     run: &mut [u32],
 ) -> Result<usize, Refusal> {
-    with_stack(|| unsafe { here::search(left, right, keep, back, line, run) })
+    with_stack(|| unsafe { here::search(tick_length, left, right, keep, back, line, run) })
 }
 
 /// Checks a given table, a raw PBM whose width is the right's states and whose height is the left's: the number of
@@ -195,13 +207,13 @@ pub fn search(
 /// let mut table = b"P4\n10 10\n".to_vec();
 /// table.resize(29, 0);
 /// table[9] = 0x80;
-/// let refusal = check(&post, &post, &mut [0; KEEP_BYTES], &table).unwrap_err();
+/// let refusal = check(1, &post, &post, &mut [0; KEEP_BYTES], &table).unwrap_err();
 /// assert_eq!((refusal.code, refusal.p, refusal.q), (Code::RuleBroken, 0, 0));
 /// # Ok(())
 /// # }
 /// ```
-pub fn check(left: &[u8], right: &[u8], keep: &mut [u8], table: &[u8]) -> Result<usize, Refusal> {
-    with_stack(|| unsafe { here::check(left, right, keep, table) })
+pub fn check(tick_length: usize, left: &[u8], right: &[u8], keep: &mut [u8], table: &[u8]) -> Result<usize, Refusal> {
+    with_stack(|| unsafe { here::check(tick_length, left, right, keep, table) })
 }
 
 /// Makes the widest table, in [`table_bytes`] bytes. `keep` gets the left's safe states.
@@ -212,14 +224,20 @@ pub fn check(left: &[u8], right: &[u8], keep: &mut [u8], table: &[u8]) -> Result
 /// # fn main() -> Result<(), Box<dyn std::error::Error>> {
 /// # let rearm = std::fs::read(concat!(env!("CARGO_MANIFEST_DIR"), "/../../examples/Rearm.xta"))?;
 /// # let post = std::fs::read(concat!(env!("CARGO_MANIFEST_DIR"), "/../../examples/Post.xta"))?;
-/// let mut table = vec![0; table_bytes(read(&rearm)?.states, read(&post)?.states)];
-/// let made = widest(&rearm, &post, &mut [0; KEEP_BYTES], &mut table)?;
+/// let mut table = vec![0; table_bytes(read(1, &rearm)?.states, read(1, &post)?.states)];
+/// let made = widest(1, &rearm, &post, &mut [0; KEEP_BYTES], &mut table)?;
 /// assert_eq!((made.pairs, made.start), (25, false)); // without its start pair it shows nothing
 /// # Ok(())
 /// # }
 /// ```
-pub fn widest(left: &[u8], right: &[u8], keep: &mut [u8], table: &mut [u8]) -> Result<Widest, Refusal> {
-    with_stack(|| unsafe { here::widest(left, right, keep, table) })
+pub fn widest(
+    tick_length: usize,
+    left: &[u8],
+    right: &[u8],
+    keep: &mut [u8],
+    table: &mut [u8],
+) -> Result<Widest, Refusal> {
+    with_stack(|| unsafe { here::widest(tick_length, left, right, keep, table) })
 }
 
 /// The bytes of `keep` for a text, the left one, of so many states: a bit for each. 0 where no text has so many

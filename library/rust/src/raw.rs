@@ -26,28 +26,31 @@ pub const COMPARISON_ENTRIES: usize = 3;
 
 extern "C" {
     pub fn megzhoi_read(
-        text: *const u8, text_len: usize, record: *mut usize, record_len: usize,
+        tick_length: usize, text: *const u8, text_len: usize, record: *mut usize, record_len: usize,
         file: *mut usize, p: *mut usize, q: *mut usize,
     ) -> usize;
     pub fn megzhoi_safe_states(
-        text: *const u8, text_len: usize, keep: *mut u8, keep_len: usize,
+        tick_length: usize, text: *const u8, text_len: usize, keep: *mut u8, keep_len: usize,
         file: *mut usize, p: *mut usize, q: *mut usize,
     ) -> usize;
     pub fn megzhoi_implementation(
-        text: *const u8, text_len: usize, file: *mut usize, p: *mut usize, q: *mut usize,
+        tick_length: usize, text: *const u8, text_len: usize, file: *mut usize, p: *mut usize, q: *mut usize,
     ) -> usize;
     pub fn megzhoi_search(
-        left: *const u8, left_len: usize, right: *const u8, right_len: usize, keep: *mut u8, keep_len: usize,
+        tick_length: usize, left: *const u8, left_len: usize, right: *const u8, right_len: usize,
+        keep: *mut u8, keep_len: usize,
         back: *mut u32, back_len: usize, line: *mut u32, line_len: usize, run: *mut u32, run_len: usize,
         file: *mut usize, p: *mut usize, q: *mut usize,
     ) -> usize;
     pub fn megzhoi_check(
-        left: *const u8, left_len: usize, right: *const u8, right_len: usize, keep: *mut u8, keep_len: usize,
-        table: *const u8, table_len: usize, file: *mut usize, p: *mut usize, q: *mut usize,
+        tick_length: usize, left: *const u8, left_len: usize, right: *const u8, right_len: usize,
+        keep: *mut u8, keep_len: usize, table: *const u8, table_len: usize,
+        file: *mut usize, p: *mut usize, q: *mut usize,
     ) -> usize;
     pub fn megzhoi_widest(
-        left: *const u8, left_len: usize, right: *const u8, right_len: usize, keep: *mut u8, keep_len: usize,
-        table: *mut u8, table_len: usize, file: *mut usize, p: *mut usize, q: *mut usize,
+        tick_length: usize, left: *const u8, left_len: usize, right: *const u8, right_len: usize,
+        keep: *mut u8, keep_len: usize, table: *mut u8, table_len: usize,
+        file: *mut usize, p: *mut usize, q: *mut usize,
     ) -> usize;
     pub fn megzhoi_keep_bytes(states: usize) -> usize;
     pub fn megzhoi_table_bytes(left_states: usize, right_states: usize) -> usize;

@@ -34,7 +34,7 @@ pub enum Sign {
     Greater,
 }
 
-/// A clock, numbered from 0, compared with a constant.
+/// A clock, numbered from 0, compared with a constant in ticks.
 #[derive(Clone, Copy, Debug, PartialEq, Eq)]
 #[allow(missing_docs)]
 pub struct Comparison {

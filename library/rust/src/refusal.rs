@@ -12,7 +12,7 @@ use std::fmt;
 /// assert_eq!(code, Code::KeepTooShort);
 /// assert_eq!(code.number(), 13);
 /// assert_eq!(code.text(), "keep is too short");
-/// assert!(Code::try_from(24).is_err());
+/// assert!(Code::try_from(25).is_err());
 /// # Ok::<(), megzhoi::NoSuchCode>(())
 /// ```
 #[derive(Clone, Copy, Debug, PartialEq, Eq, PartialOrd, Ord, Hash)]
@@ -42,6 +42,7 @@ pub enum Code {
     RunTooShort = 21,
     OutputBesideTick = 22,
     NeitherPossible = 23,
+    TickOutOfRange = 24,
 }
 
 impl Code {
@@ -70,9 +71,10 @@ impl Code {
         Code::RunTooShort,
         Code::OutputBesideTick,
         Code::NeitherPossible,
+        Code::TickOutOfRange,
     ];
 
-    /// The code as C has it, from 1 to 23.
+    /// The code as C has it, from 1 to 24.
     pub fn number(self) -> usize {
         self as usize
     }
@@ -85,7 +87,7 @@ impl Code {
             Code::NameTooLong => "a name has more than 31 bytes",
             Code::DeclaredBefore => "the name is declared already",
             Code::UnknownName => "the name is not declared, or is of another kind",
-            Code::ConstantTooLarge => "a constant is over 1,000",
+            Code::ConstantTooLarge => "a constant is over 1,000 ticks",
             Code::TooManyItems => "there are more items than the limit allows",
             Code::OtherMark => "the channel was used with the other mark before",
             Code::TooManyStates => "the text has more than 4,096 states",
@@ -103,6 +105,7 @@ impl Code {
             Code::RunTooShort => "run is too short",
             Code::OutputBesideTick => "an output is possible beside a tick, in a reachable state",
             Code::NeitherPossible => "neither a tick nor an output is possible, in a reachable state",
+            Code::TickOutOfRange => "the tick length is not 1 to 60,000",
         }
     }
 
@@ -127,6 +130,7 @@ impl Code {
             Code::StartPairNotSet => (Some("left start"), Some("right start")),
             Code::PairNotAllowed => (Some("left state"), Some("right state")),
             Code::RuleBroken => (Some("step"), Some("left state × right states + right state")),
+            Code::TickOutOfRange => (Some("tick length"), None),
         }
     }
 }
@@ -194,7 +198,7 @@ impl fmt::Display for Side {
 /// ```
 /// use megzhoi::{read, Code, Refusal, Side};
 ///
-/// let refusal = read(b"process P() { state A; init B; } system P;").unwrap_err();
+/// let refusal = read(1, b"process P() { state A; init B; } system P;").unwrap_err();
 /// assert_eq!(refusal, Refusal { code: Code::UnknownName, file: Some(Side::Left), p: 28, q: 0 });
 /// assert_eq!(
 ///     refusal.to_string(),

@@ -1,6 +1,9 @@
 //! The posts through the wrapper; the expected values are those of SPECIFICATION 16.
 use megzhoi::{check, implementation, read, safe_states, search, widest};
-use megzhoi::{Code, Direction, Label, Refusal, Side, Sign, KEEP_BYTES};
+use megzhoi::{Code, Direction, Label, Refusal, Side, Sign, KEEP_BYTES, TICK_LIMIT};
+
+/// The tick length with which constants are ticks.
+const TICK: usize = 1;
 
 const POST: &str = "broadcast chan pass, spike, late;
 process Post() {
@@ -52,6 +55,12 @@ fn spare() -> String {
     changed(&located, "};\n}", "},\nOff -> Off { sync pass?; },\nOff -> Off { sync spike?; };\n}")
 }
 
+/// The repository's own, with constants in milliseconds.
+fn sheet() -> Vec<u8> {
+    let path = concat!(env!("CARGO_MANIFEST_DIR"), "/../../examples/Sheet.xta");
+    std::fs::read(path).unwrap_or_else(|error| panic!("{path}: {error}"))
+}
+
 /// A refusal by its four numbers.
 fn refused<T>(code: usize, file: usize, p: usize, q: usize) -> Result<T, Refusal> {
     let file = [None, Some(Side::Left), Some(Side::Right)][file];
@@ -61,7 +70,7 @@ fn refused<T>(code: usize, file: usize, p: usize, q: usize) -> Result<T, Refusal
 /// The steps of a shortest departure, with room enough in every slice.
 fn departure(left: &str, right: &str) -> Result<Vec<u32>, Refusal> {
     let (mut keep, mut back, mut line, mut run) = ([0; KEEP_BYTES], vec![0; 16384], vec![0; 16384], vec![0; 16384]);
-    let n = search(left.as_bytes(), right.as_bytes(), &mut keep, &mut back, &mut line, &mut run)?;
+    let n = search(TICK, left.as_bytes(), right.as_bytes(), &mut keep, &mut back, &mut line, &mut run)?;
     Ok(run[..n].to_vec())
 }
 
@@ -70,7 +79,7 @@ fn count(left: &str, right: &str) -> Result<usize, Refusal> {
 }
 
 fn checked(table: &[u8]) -> Result<usize, Refusal> {
-    check(POST.as_bytes(), POST.as_bytes(), &mut [0; KEEP_BYTES], table)
+    check(TICK, POST.as_bytes(), POST.as_bytes(), &mut [0; KEEP_BYTES], table)
 }
 
 /// A table of ten by ten with the pairs given.
@@ -85,7 +94,7 @@ fn table(pairs: &[(usize, usize)]) -> Vec<u8> {
 
 #[test]
 fn record_of_post() {
-    let record = read(POST.as_bytes()).unwrap();
+    let record = read(TICK, POST.as_bytes()).unwrap();
     let names: Vec<&str> = record.channels.iter().map(|c| &POST[c.name.clone()]).collect();
     assert_eq!(names, ["pass", "spike", "late"]);
     let directions: Vec<Direction> = record.channels.iter().map(|c| c.direction).collect();
@@ -100,20 +109,20 @@ fn record_of_post() {
     assert_eq!((late.source, late.target, late.label, late.resets), (0, 1, Label::Output(3), [false; 3]));
     assert_eq!((late.guard.len(), late.guard[0].sign, late.guard[0].bound), (1, Sign::AtLeast, 3));
     assert_eq!(record.edges[4].label, Label::Input(2));
-    assert_eq!(read(rearm().as_bytes()).unwrap().edges[1].resets, [true, false, false]);
+    assert_eq!(read(TICK, rearm().as_bytes()).unwrap().edges[1].resets, [true, false, false]);
 }
 
 #[test]
 fn signs() {
     let guarded = |guard: &str| changed(POST, "x >= 3", guard);
     let signs = |text: String| -> Vec<(Sign, usize)> {
-        let guard = &read(text.as_bytes()).unwrap().edges[2].guard;
+        let guard = &read(TICK, text.as_bytes()).unwrap().edges[2].guard;
         guard.iter().map(|comparison| (comparison.sign, comparison.bound)).collect()
     };
     let four = [(Sign::Less, 9), (Sign::Greater, 1), (Sign::AtMost, 8), (Sign::AtLeast, 2)];
     assert_eq!(signs(guarded("x < 9 && x > 1 && x <= 8 && x >= 2")), four);
     assert_eq!(signs(guarded("x == 3 && x < 0")), [(Sign::Equal, 3), (Sign::Less, 0)]);
-    let record = read(strict().as_bytes()).unwrap();
+    let record = read(TICK, strict().as_bytes()).unwrap();
     let invariant = record.locations[0].invariant[0];
     assert_eq!((invariant.clock, invariant.sign, invariant.bound, record.states), (0, Sign::Less, 4, 12));
     assert_eq!(signs(strict()), [(Sign::Greater, 2)]);
@@ -121,14 +130,14 @@ fn signs() {
 
 #[test]
 fn strict_and_post() {
-    let safe = safe_states(strict().as_bytes(), &mut [0; 2]).unwrap();
+    let safe = safe_states(TICK, strict().as_bytes(), &mut [0; 2]).unwrap();
     assert_eq!((safe.count, safe.start), (10, true));
     for (left, right, bytes) in [(strict(), POST.to_string(), 33), (POST.to_string(), strict(), 29)] {
         assert_eq!(count(&left, &right), Ok(0));
         let mut table = vec![0; bytes];
-        let answer = widest(left.as_bytes(), right.as_bytes(), &mut [0; 2], &mut table).unwrap();
+        let answer = widest(TICK, left.as_bytes(), right.as_bytes(), &mut [0; 2], &mut table).unwrap();
         assert_eq!((answer.pairs, answer.start), (34, true));
-        assert_eq!(check(left.as_bytes(), right.as_bytes(), &mut [0; 2], &table), Ok(34));
+        assert_eq!(check(TICK, left.as_bytes(), right.as_bytes(), &mut [0; 2], &table), Ok(34));
     }
     assert_eq!(departure(&strict(), &early()), Ok(vec![0, 0, 0]));
     assert_eq!(departure(&early(), &strict()), Ok(vec![0, 0, 3]));
@@ -137,7 +146,8 @@ fn strict_and_post() {
 #[test]
 fn signs_of_an_invariant() {
     let place = POST.find("x <= 3").unwrap();
-    let bounded = |invariant: &str| read(changed(POST, "x <= 3", invariant).as_bytes()).map(|record| record.states);
+    let states = |text: String| read(TICK, text.as_bytes()).map(|record| record.states);
+    let bounded = |invariant: &str| states(changed(POST, "x <= 3", invariant));
     assert_eq!(bounded("x < 0"), refused(2, 1, place + 4, 0));
     assert_eq!(bounded("x < 00"), refused(2, 1, place + 4, 0));
     assert_eq!(bounded("x > 3"), refused(2, 1, place + 2, 0));
@@ -148,26 +158,26 @@ fn signs_of_an_invariant() {
 #[test]
 fn safe_states_of_posts() {
     let mut keep = [0xff; 3];
-    let safe = safe_states(POST.as_bytes(), &mut keep).unwrap();
+    let safe = safe_states(TICK, POST.as_bytes(), &mut keep).unwrap();
     assert_eq!((safe.count, safe.start, keep), (9, true, [0xf7, 0xc0, 0xff]));
-    let safe = safe_states(hush().as_bytes(), &mut keep).unwrap();
+    let safe = safe_states(TICK, hush().as_bytes(), &mut keep).unwrap();
     assert_eq!((safe.count, safe.start), (5, false));
-    assert_eq!(safe_states(POST.as_bytes(), &mut [0; 1]), refused(13, 0, 2, 0));
+    assert_eq!(safe_states(TICK, POST.as_bytes(), &mut [0; 1]), refused(13, 0, 2, 0));
 }
 
 #[test]
 fn implementations() {
     for text in [POST, &rearm(), &early(), &idle(), &strict(), &spare()] {
-        assert_eq!(implementation(text.as_bytes()), Ok(()), "{text}");
+        assert_eq!(implementation(TICK, text.as_bytes()), Ok(()), "{text}");
     }
-    assert_eq!(implementation(hush().as_bytes()), refused(23, 1, 3, 0));
-    assert_eq!(implementation(loose().as_bytes()), refused(22, 1, 2, 3));
-    assert_eq!(read(spare().as_bytes()).unwrap().states, 15);
+    assert_eq!(implementation(TICK, hush().as_bytes()), refused(23, 1, 3, 0));
+    assert_eq!(implementation(TICK, loose().as_bytes()), refused(22, 1, 2, 3));
+    assert_eq!(read(TICK, spare().as_bytes()).unwrap().states, 15);
     // What reading refuses comes first.
-    assert_eq!(implementation(b""), refused(2, 1, 0, 0));
-    assert_eq!(implementation(&[b' '; 32_769]), refused(1, 1, 0, 0));
+    assert_eq!(implementation(TICK, b""), refused(2, 1, 0, 0));
+    assert_eq!(implementation(TICK, &[b' '; 32_769]), refused(1, 1, 0, 0));
     let without = changed(&hush(), ",\nDone -> Done { sync spike?; }", "");
-    assert_eq!(implementation(without.as_bytes()), refused(10, 1, 5, 2));
+    assert_eq!(implementation(TICK, without.as_bytes()), refused(10, 1, 5, 2));
 }
 
 #[test]
@@ -187,17 +197,17 @@ fn slices_too_short() {
     let mut scratch = [vec![0; 100], vec![0; 100], vec![0; 4]];
     let [back, line, run] = &mut scratch;
     let (l, r) = (left.as_bytes(), right.as_bytes());
-    assert_eq!(search(l, r, &mut [], back, line, run), refused(13, 0, 2, 0));
-    assert_eq!(search(l, r, &mut [0; 2], &mut back[..99], line, run), refused(15, 0, 100, 0));
-    assert_eq!(search(l, r, &mut [0; 2], back, &mut line[..99], run), refused(15, 0, 100, 0));
-    assert_eq!(search(l, r, &mut [0; 2], back, line, run), refused(21, 0, 5, 0));
-    assert_eq!(widest(r, r, &mut [0; 2], &mut [0; 28]), refused(14, 0, 29, 0));
+    assert_eq!(search(TICK, l, r, &mut [], back, line, run), refused(13, 0, 2, 0));
+    assert_eq!(search(TICK, l, r, &mut [0; 2], &mut back[..99], line, run), refused(15, 0, 100, 0));
+    assert_eq!(search(TICK, l, r, &mut [0; 2], back, &mut line[..99], run), refused(15, 0, 100, 0));
+    assert_eq!(search(TICK, l, r, &mut [0; 2], back, line, run), refused(21, 0, 5, 0));
+    assert_eq!(widest(TICK, r, r, &mut [0; 2], &mut [0; 28]), refused(14, 0, 29, 0));
 }
 
 #[test]
 fn tables() {
     let mut made = [0xaa; 30];
-    let answer = widest(POST.as_bytes(), POST.as_bytes(), &mut [0; 2], &mut made).unwrap();
+    let answer = widest(TICK, POST.as_bytes(), POST.as_bytes(), &mut [0; 2], &mut made).unwrap();
     assert_eq!((answer.pairs, answer.start), (29, true));
     let mut expected = b"P4\n10 10\n".to_vec();
     expected.extend([0x80, 0, 0x40, 0, 0x20, 0, 0x10, 0, 0, 0]);
@@ -210,28 +220,28 @@ fn tables() {
     assert_eq!(checked(&table(&diagonal)), Ok(9));
     assert_eq!(checked(&table(&[(0, 0)])), refused(20, 0, 0, 0));
     assert_eq!(checked(&table(&[])), refused(18, 0, 0, 0));
-    let answer = widest(rearm().as_bytes(), POST.as_bytes(), &mut [0; 2], &mut made).unwrap();
+    let answer = widest(TICK, rearm().as_bytes(), POST.as_bytes(), &mut [0; 2], &mut made).unwrap();
     assert_eq!((answer.pairs, answer.start), (25, false));
 }
 
 #[test]
 fn refused_texts() {
-    assert_eq!(read(b""), refused(2, 1, 0, 0));
+    assert_eq!(read(TICK, b""), refused(2, 1, 0, 0));
     assert_eq!(count(POST, ""), refused(2, 2, 0, 0));
-    assert!(read(changed(POST, "3", "1000").as_bytes()).is_ok());
+    assert!(read(TICK, changed(POST, "3", "1000").as_bytes()).is_ok());
     let over = changed(POST, "x <= 3", "x <= 1001");
-    assert_eq!(read(over.as_bytes()), refused(6, 1, over.find("1001").unwrap(), 0));
+    assert_eq!(read(TICK, over.as_bytes()), refused(6, 1, over.find("1001").unwrap(), 0));
     let without = changed(POST, ",\nDone -> Done { sync spike?; }", "");
-    assert_eq!(read(without.as_bytes()), refused(10, 1, 5, 2));
+    assert_eq!(read(TICK, without.as_bytes()), refused(10, 1, 5, 2));
     let twice = changed(POST, "trans\n", "trans\nWait -> Done { sync pass?; },\n");
-    assert_eq!(read(twice.as_bytes()), refused(11, 1, 0, 1));
+    assert_eq!(read(TICK, twice.as_bytes()), refused(11, 1, 0, 1));
 }
 
 #[test]
 fn most_states() {
     let text = |more: &str| format!("process P() {{ clock x; state A {{ x <= 1000 }}, {more}; init A; }} system P;");
-    assert_eq!(read(text("B, C, D").as_bytes()).unwrap().states, 4008);
-    assert_eq!(read(text("B, C, D, E").as_bytes()), refused(9, 1, 5010, 0));
+    assert_eq!(read(TICK, text("B, C, D").as_bytes()).unwrap().states, 4008);
+    assert_eq!(read(TICK, text("B, C, D, E").as_bytes()), refused(9, 1, 5010, 0));
 }
 
 #[test]
@@ -250,6 +260,52 @@ fn refusals_read() {
         "code 20: the pair breaks a rule (step 0, left state × right states + right state 0)"
     );
     assert_eq!(shown(checked(&[])), "code 16: the table's header or length is not that of these texts");
-    let error: Box<dyn std::error::Error> = Box::new(read(b"").unwrap_err());
+    let error: Box<dyn std::error::Error> = Box::new(read(TICK, b"").unwrap_err());
     assert!(error.source().is_none());
+}
+
+/// SPECIFICATION 16.9.
+#[test]
+fn sheet_at_several_tick_lengths() {
+    let (sheet, post) = (sheet(), read(TICK, POST.as_bytes()).unwrap());
+    let at = |tick_length: usize| read(tick_length, &sheet).unwrap();
+    let same = at(1_000);
+    assert_eq!((same.states, same.init, same.clocks.len()), (post.states, post.init, post.clocks.len()));
+    assert_eq!(same.locations[0].invariant, post.locations[0].invariant);
+    assert_eq!(same.edges, post.edges);
+    let bounds = |tick_length: usize| {
+        let record = at(tick_length);
+        let bound = |list: &[megzhoi::Comparison]| (list[0].sign, list[0].bound);
+        (record.states, bound(&record.locations[0].invariant), bound(&record.edges[2].guard))
+    };
+    assert_eq!(bounds(2_000), (8, (Sign::AtMost, 2), (Sign::AtLeast, 1)));
+    assert_eq!(bounds(TICK_LIMIT), (4, (Sign::AtMost, 0), (Sign::AtLeast, 0)));
+    assert_eq!(implementation(1_000, &sheet), Ok(()));
+    assert_eq!(implementation(2_000, &sheet), refused(22, 1, 1, 3));
+    assert_eq!(implementation(TICK_LIMIT, &sheet), Ok(()));
+    let place = sheet.windows(4).position(|part| part == b"3000").unwrap();
+    assert_eq!(read(TICK, &sheet), refused(6, 1, place, 0));
+}
+
+/// 24 comes before every other code, for each operation, and touches nothing (SPECIFICATION 13.3 to 13.5).
+#[test]
+fn tick_lengths_out_of_range() {
+    const LENT: (u8, u32) = (0xa5, 77);
+    let long = vec![b' '; 32_769];
+    for tick_length in [0, TICK_LIMIT + 1, 1 << 32 | 1, usize::MAX] {
+        for text in [sheet(), b"?".to_vec(), long.clone()] {
+            let (mut keep, mut table, mut entries) = ([LENT.0; 2], [LENT.0; 29], [[LENT.1; 100]; 3]);
+            let [back, line, run] = &mut entries;
+            assert_eq!(read(tick_length, &text), refused(24, 0, tick_length, 0));
+            assert_eq!(safe_states(tick_length, &text, &mut keep), refused(24, 0, tick_length, 0));
+            assert_eq!(implementation(tick_length, &text), refused(24, 0, tick_length, 0));
+            let found = search(tick_length, &text, &long, &mut keep, back, line, run);
+            assert_eq!(found, refused(24, 0, tick_length, 0));
+            assert_eq!(check(tick_length, &text, &text, &mut keep, &table), refused(24, 0, tick_length, 0));
+            assert_eq!(widest(tick_length, &text, &text, &mut keep, &mut table), refused(24, 0, tick_length, 0));
+            assert_eq!((keep, table, entries), ([LENT.0; 2], [LENT.0; 29], [[LENT.1; 100]; 3]));
+        }
+    }
+    let shown = read(0, POST.as_bytes()).unwrap_err().to_string();
+    assert_eq!(shown, "code 24: the tick length is not 1 to 60,000 (tick length 0)");
 }

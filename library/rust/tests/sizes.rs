@@ -4,6 +4,9 @@ use texts::{drifting, early, post, rearm, scaled_post, strict, Kind};
 
 const STATE_LIMIT: usize = 4096;
 
+/// The tick length with which constants are ticks.
+const TICK: usize = 1;
+
 #[test]
 fn every_count() {
     for states in 1..=STATE_LIMIT {
@@ -46,15 +49,15 @@ fn they_are_the_least() {
         drifting(10, 4, Kind::Departing),
     ];
     for (left, right) in pairs {
-        let (rows, width) = (read(&left).unwrap().states, read(&right).unwrap().states);
+        let (rows, width) = (read(TICK, &left).unwrap().states, read(TICK, &right).unwrap().states);
         let (bytes, entries, table) = (keep_bytes(rows), queue_entries(rows, width), table_bytes(rows, width));
         let search = |keep: usize, back: usize, line: usize| {
             let (mut keep, mut run) = (vec![0; keep], vec![0; entries]);
-            numbers(search(&left, &right, &mut keep, &mut vec![0; back], &mut vec![0; line], &mut run))
+            numbers(search(TICK, &left, &right, &mut keep, &mut vec![0; back], &mut vec![0; line], &mut run))
         };
-        let widest = |table: usize| numbers(widest(&left, &right, &mut vec![0; bytes], &mut vec![0; table]));
-        assert_eq!(numbers(safe_states(&left, &mut vec![0; bytes])), None);
-        assert_eq!(numbers(safe_states(&left, &mut vec![0; bytes - 1])), Some((Code::KeepTooShort, bytes)));
+        let widest = |table: usize| numbers(widest(TICK, &left, &right, &mut vec![0; bytes], &mut vec![0; table]));
+        assert_eq!(numbers(safe_states(TICK, &left, &mut vec![0; bytes])), None);
+        assert_eq!(numbers(safe_states(TICK, &left, &mut vec![0; bytes - 1])), Some((Code::KeepTooShort, bytes)));
         assert_eq!(search(bytes, entries, entries), None);
         assert_eq!(search(bytes - 1, entries, entries), Some((Code::KeepTooShort, bytes)));
         assert_eq!(search(bytes, entries - 1, entries), Some((Code::QueueTooShort, entries)));

@@ -5,20 +5,23 @@ use megzhoi::{here, keep_bytes, queue_entries, table_bytes, KEEP_BYTES, STACK};
 use std::thread;
 use texts::{chain, drifting, full_of_edges, full_of_tokens, passive, post, Kind, Reach};
 
+/// The tick length with which constants are ticks.
+const TICK: usize = 1;
+
 /// All six operations on two texts, on the caller's thread.
 fn operations(left: &[u8], right: &[u8]) {
     // SAFETY: whether the stack is large enough is what is tried here.
     unsafe {
-        let (Ok(of_left), Ok(of_right)) = (here::read(left), here::read(right)) else { return };
+        let (Ok(of_left), Ok(of_right)) = (here::read(TICK, left), here::read(TICK, right)) else { return };
         let entries = queue_entries(of_left.states, of_right.states);
         let (mut back, mut line, mut run) = (vec![0; entries], vec![0; entries], vec![0; entries]);
         let mut keep = vec![0; keep_bytes(of_left.states)];
         let mut table = vec![0; table_bytes(of_left.states, of_right.states)];
-        let safe = here::safe_states(left, &mut keep).expect("an accepted text");
-        let judged = here::implementation(left);
-        let found = here::search(left, right, &mut keep, &mut back, &mut line, &mut run);
-        let made = here::widest(left, right, &mut keep, &mut table);
-        let checked = here::check(left, right, &mut [0; KEEP_BYTES], &table);
+        let safe = here::safe_states(TICK, left, &mut keep).expect("an accepted text");
+        let judged = here::implementation(TICK, left);
+        let found = here::search(TICK, left, right, &mut keep, &mut back, &mut line, &mut run);
+        let made = here::widest(TICK, left, right, &mut keep, &mut table);
+        let checked = here::check(TICK, left, right, &mut [0; KEEP_BYTES], &table);
         // The start of an implementation is safe (SPECIFICATION 8.6).
         assert!(safe.start || judged.is_err());
         assert_eq!([found.is_ok(), made.is_ok()], [safe.start; 2]);

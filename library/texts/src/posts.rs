@@ -1,4 +1,4 @@
-//! The eight posts of SPECIFICATION 16.1.
+//! The nine posts of SPECIFICATION 16.1.
 
 fn build(bound: usize, invariant: bool, late: bool, rearm: bool) -> Vec<u8> {
     let wait = if invariant { format!("Wait {{ x <= {bound} }}") } else { "Wait".to_string() };
@@ -54,6 +54,11 @@ pub fn spare() -> Vec<u8> {
     const DONE: &str = "Done -> Done { sync spike?; };";
     const OFF: &str = "Done -> Done { sync spike?; },\nOff -> Off { sync pass?; },\nOff -> Off { sync spike?; };";
     changed(&[(", Done;", ", Done, Off { x <= 0 };"), (DONE, OFF)])
+}
+
+/// Bounds in milliseconds: at a tick length of 1,000 those of the post.
+pub fn sheet() -> Vec<u8> {
+    changed(&[("x <= 3", "x <= 3000"), ("x >= 3", "x >= 2500")])
 }
 
 /// The post with parts replaced, each of which must be there.

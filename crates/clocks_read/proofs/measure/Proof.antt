@@ -8,20 +8,22 @@ ranges-of-requires : tie.Need-ranges-of-requires
 ranges-of-requires c κs =
     let start = c .before .before .before .before .before in
     let parse-call = c .before .before .before .parse in
-    load-formed (start .args .text .now) (parse-call .result) (parse-call .ensures) (c .before .enum-told2 .given .1)
+    load-formed (start .args .period) (start .args .text .now) (parse-call .result) (parse-call .ensures)
+    (c .before .enum-told2 .given .1)
 
 state-count-of-requires : tie.Need-state-count-of-requires
 state-count-of-requires c κs =
     let start = c .before .before .before .before .before .before in
     let parse-call = c .before .before .before .before .parse in
     counted _
-    (load-formed (start .args .text .now) (parse-call .result) (parse-call .ensures)
+    (load-formed (start .args .period) (start .args .text .now) (parse-call .result) (parse-call .ensures)
     (c .before .before .enum-told2 .given .1)) _ (c .ranges-of .ensures)
 
 returns : tie.Need-returns
 returns c =
     let start = c .before .before .before .before .before in
-    measured-refused (start .args .text .now) _ _ (c .before .before .before .parse .ensures) (c .before .enum-told
+    measured-refused (start .args .period) (start .args .text .now) _ _ (c .before .before .before .parse .ensures)
+    (c .before .enum-told
     .given .1)
 
 returns-2 : tie.Need-returns-2
@@ -29,8 +31,8 @@ returns-2 c =
     let start = c .before .before .before .before .before .before .before in
     let parse-call = c .before .before .before .before .before .parse in
     let ranges = c .before .ranges-of in
-    measured-accepted (start .args .text .now) _ (parse-call .ensures) (record {
-      formed = load-formed (start .args .text .now) (parse-call .result) (parse-call .ensures)
+    measured-accepted (start .args .period) (start .args .text .now) _ (parse-call .ensures) (record {
+      formed = load-formed (start .args .period) (start .args .text .now) (parse-call .result) (parse-call .ensures)
           (c .before .before .before .enum-told2 .given .1);
       same = ranges .ensures;
       count = count-is _ _ (ranges .ensures) _ (c .state-count-of .ensures);

@@ -10,13 +10,14 @@ use Rattle.tables_header.specs.Header.{table-bytes}
 use Rattle.printed.specs.Fits.{few-read}
 use Rattle.printed.proofs.table_bytes.Statement.{statement}
 use Rattle.printed.proofs.table_bytes.Tie as tie
+use Rattle.printed.specs.Prints.{program-tick}
 
-few : (s : List ℕ) {r : Reading} → r ≡ read-outcome s → r .states ≤ state-limit
+few : (s : List ℕ) {r : Reading} → r ≡ read-outcome program-tick s → r .states ≤ state-limit
 few s e = rw e (few-read s)
 
-counted : {l r : Reading} {n : ℕ} (s u : List ℕ) → l ≡ read-outcome s → r ≡ read-outcome u
+counted : {l r : Reading} {n : ℕ} (s u : List ℕ) → l ≡ read-outcome program-tick s → r ≡ read-outcome program-tick u
     → n ≡ table-bytes (r .states) (l .states)
-    → n ≡ table-bytes (read-outcome u .states) (read-outcome s .states)
+    → n ≡ table-bytes (read-outcome program-tick u .states) (read-outcome program-tick s .states)
 counted s u e f g = rw (e, f) at g
 
 table-length-requires : tie.Need-table-length-requires

@@ -7,10 +7,10 @@ use Rattle.random_calls.proofs.table_cases.Statement.{statement}
 use Rattle.random_calls.proofs.table_cases.Tie as tie
 
 abbrev Inv-loop : tie.InvT-loop
-Inv-loop left right c l r tally₀ set₀ w kind₀ tally set kind = (kind ≤ 5) × ((length set ≡ 16384) × (length tally ≡ length tally₀))
+Inv-loop period left right c l r tally₀ set₀ w kind₀ tally set kind = (kind ≤ 5) × ((length set ≡ 16384) × (length tally ≡ length tally₀))
 
 abbrev μ-loop : tie.MeasureT-loop
-μ-loop left right c l r tally₀ set₀ w kind₀ tally set kind = 5 - kind
+μ-loop period left right c l r tally₀ set₀ w kind₀ tally set kind = 5 - kind
 
 pub table-cases-spec : {M : Type 1} → statement M
 table-cases-spec =

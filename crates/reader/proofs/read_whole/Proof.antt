@@ -15,7 +15,7 @@ all-parts :
     let i = c .before .before .before .before .init-part .result in
     let r = c .before .before .before .before .before .before .read-head .result in
     let s = c .before .before .before .before .before .before .before .before .args .s .now in
-    read-whole s
+    read-whole (c .before .before .before .before .before .before .before .before .args .period) s
     ≡ state-of (c .end-part .result) (r .names)
     (whole (with-channels (r .head) (e .channels)) (i .number) (e .edges) (e .count))
 unfolding read-whole with-init

@@ -7,7 +7,7 @@ use Rattle.reader.proofs.refused.Tie as tie
 
 returns : tie.Need-returns
 unfolding refused
-returns c = rw (c .before .refusal-of .ensures, c .no-text .ensures)
+returns c = rw (c .refused-by .ensures, c .before .refusal-of .ensures)
 
 pub refused-spec : {M : Type 1} → statement M
 refused-spec = tie.close (tie.spec (λ c κs. search needs) (λ c κs. search needs) returns)

@@ -16,7 +16,7 @@ cast-number c =
     omega (arith, used-small _ _ first-clock clock-limit _ (omega arith) _ _ (named .ensures))
 
 cast-value : tie.Need-cast-value
-cast-value c = omega (arith, amount-small _ _ _ _ (c .before .before .constant .ensures))
+cast-value c = omega (arith, amount-small _ _ _ _ _ (c .before .before .constant .ensures))
 
 returns : tie.Need-returns
 unfolding comparison-next

@@ -2,9 +2,10 @@
 -- the number.
 use borrow.Author.Needs.{needs}
 use borrow.Author.Tests.{eq-eqb, ne-eqb, lt-ltb, le-ltb}
-use mathlib.Core.Path.{sym, _∙_}
-use Rattle.reader_constraints.specs.Constraints.{constant-of}
-use Rattle.reader_tokens.specs.Clamped.{unclamped, above}
+use mathlib.Core.Path.{sym, _∙_, ap}
+use Rattle.reader_constraints.specs.Constraints.{in-ticks, constant-of}
+use Rattle.reader_tokens.specs.Clamped.{clamped-bound}
+use Rattle.reader_constraints.specs.Ticks.{unclamped-ticks, above-ticks}
 use Rattle.reader_constraints.proofs.constant_of.Statement.{statement}
 use Rattle.reader_constraints.proofs.constant_of.Tie as tie
 use Rattle.limits.specs.Limits.{largest-constant}
@@ -13,24 +14,31 @@ returns : tie.Need-returns
 unfolding constant-of
 returns c = rw (ne-eqb _ _ (c .before .if1 .taken), c .no-amount .ensures)
 
+in-ticks-requires : tie.Need-in-ticks-requires
+in-ticks-requires c κs = (search needs, rw (c .number-at .ensures) (clamped-bound _))
+
 returns-2 : tie.Need-returns-2
 unfolding constant-of
 returns-2 c =
-    let number = c .before .before .number-at in
+    let number = c .before .before .before .number-at in
+    let ticks = c .before .before .in-ticks .ensures ∙ ap (in-ticks _) (number .ensures) in
     rw (
-      eq-eqb _ _ (c .before .before .before .if1 .left),
-      lt-ltb largest-constant _ (above _ (rw (number .ensures) at (c .before .if2 .taken))),
+      eq-eqb _ _ (c .before .before .before .before .if1 .left),
+      lt-ltb largest-constant _ (above-ticks _ (c .before .before .before .before .before .before .before .pre) _
+          (rw ticks at (c .before .if2 .taken))),
       c .no-amount2 .ensures,
     )
 
 returns-3 : tie.Need-returns-3
 unfolding constant-of
 returns-3 c =
-    let number = c .before .before .before .number-at in
+    let number = c .before .before .before .before .number-at in
+    let ticks = c .before .before .before .in-ticks .ensures ∙ ap (in-ticks _) (number .ensures) in
     let allowed = c .before .before .if2 .left in
-    let value = number .ensures ∙ unclamped _ (rw (number .ensures) at allowed) in
+    let value = ticks ∙ unclamped-ticks _ (c .before .before .before .before .before .before .before .before .pre) _
+    (rw ticks at allowed) in
     rw (
-      eq-eqb _ _ (c .before .before .before .before .if1 .left),
+      eq-eqb _ _ (c .before .before .before .before .before .if1 .left),
       sym value,
       le-ltb largest-constant _ allowed,
       lt-ltb _ _ (c .before .if3 .taken),
@@ -40,11 +48,13 @@ returns-3 c =
 returns-4 : tie.Need-returns-4
 unfolding constant-of
 returns-4 c =
-    let number = c .before .before .number-at in
+    let number = c .before .before .before .number-at in
+    let ticks = c .before .before .in-ticks .ensures ∙ ap (in-ticks _) (number .ensures) in
     let allowed = c .before .if2 .left in
-    let value = number .ensures ∙ unclamped _ (rw (number .ensures) at allowed) in
+    let value = ticks ∙ unclamped-ticks _ (c .before .before .before .before .before .before .before .pre) _
+    (rw ticks at allowed) in
     rw (
-      eq-eqb _ _ (c .before .before .before .if1 .left),
+      eq-eqb _ _ (c .before .before .before .before .if1 .left),
       sym value,
       le-ltb largest-constant _ allowed,
       le-ltb _ _ (c .if3 .left),
@@ -57,6 +67,7 @@ constant-of-spec =
     (λ c κs. search needs)
     returns
     (λ c κs. search needs)
+    in-ticks-requires
     (λ c κs. search needs)
     returns-2
     (λ c κs. search needs)

@@ -13,12 +13,12 @@ use Rattle.reader_constraints.proofs.constraint.Tie as tie
 use Rattle.limits.specs.Limits.{comparison-limit}
 
 abbrev Inv-loop : tie.InvT-loop
-Inv-loop s names invariant closing c₀ q₀ c q = (c .count ≤ comparison-limit) × (constraint-from
+Inv-loop period s names invariant closing c₀ q₀ c q = (c .count ≤ comparison-limit) × (constraint-from period
     (comparison-limit - c .count) s names invariant closing q c
-    ≡ constraint-from comparison-limit s names invariant closing q₀ blank-constraint)
+    ≡ constraint-from period comparison-limit s names invariant closing q₀ blank-constraint)
 
 abbrev μ-loop : tie.MeasureT-loop
-μ-loop s names invariant closing c₀ q₀ c q = comparison-limit - c .count
+μ-loop period s names invariant closing c₀ q₀ c q = comparison-limit - c .count
 
 loop-holds : tie.Need-loop-holds Inv-loop μ-loop
 unfolding blank-constraint
@@ -29,7 +29,7 @@ unfolding constraint
 returns c =
     let loop = c .before .before .before .loop in
     let full : comparison-limit - loop .c .count ≡ 0 = omega arith in
-    sym (turn-full _ _ _ _ _ _ (c .comparison-next .ensures)) ∙ rw full at (loop .inv .1)
+    sym (turn-full _ _ _ _ _ _ _ (c .comparison-next .ensures)) ∙ rw full at (loop .inv .1)
 
 returns-2 : tie.Need-returns-2 Inv-loop μ-loop
 unfolding constraint
@@ -38,7 +38,7 @@ returns-2 c =
     let comparison-call = c .before .before .before .before .before .comparison-next2 in
     let with-comparison-call = c .before .before .before .with-comparison in
     rw (c .take .ensures, with-comparison-call .ensures)
-    (sym (turn-last _ _ _ _ _ _ (comparison-call .ensures) _ (sym
+    (sym (turn-last _ _ _ _ _ _ _ (comparison-call .ensures) _ (sym
     (c .before .before .ahead .ensures) ∙ not-true _ (c .before .if2 .taken)))
     ∙ rw (room-left comparison-limit
     (loop .c .count)
@@ -56,7 +56,7 @@ loop-again c =
     let with-comparison-call = c .before .before .before .with-comparison in
     rw (c .take2 .ensures, with-comparison-call .ensures) (
       omega arith,
-      sym (turn-more _ _ _ _ _ _ (comparison-call .ensures) _ (sym
+      sym (turn-more _ _ _ _ _ _ _ (comparison-call .ensures) _ (sym
           (c .before .before .ahead .ensures) ∙ not-false _ (c .before .if2 .left)))
           ∙ rw (room-left comparison-limit
           (loop .c .count)

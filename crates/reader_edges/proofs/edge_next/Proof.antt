@@ -12,13 +12,13 @@ use Rattle.reader_edges.proofs.edge_next.Statement.{statement}
 use Rattle.reader_edges.proofs.edge_next.Tie as tie
 use Rattle.limits.specs.Limits.{location-limit}
 
-cast-t23 : tie.Need-cast-t23
-cast-t23 c =
+cast-from : tie.Need-cast-from
+cast-from c =
     let named = c .before .before .before .before .before .before .before .before .before .before .use-name in
     omega (arith, used-small _ _ first-location location-limit _ (omega arith) _ _ (named .ensures))
 
-cast-t24 : tie.Need-cast-t24
-cast-t24 c =
+cast-to : tie.Need-cast-to
+cast-to c =
     let named = c .before .before .before .before .before .before .before .before .before .use-name2 in
     omega (arith, used-small _ _ first-location location-limit _ (omega arith) _ _ (named .ensures))
 
@@ -61,6 +61,6 @@ edge-next-spec =
     (λ c κs. search needs)
     (λ c κs. search needs)
     (λ c κs. search needs)
-    cast-t23
-    cast-t24
+    cast-from
+    cast-to
     returns)

@@ -19,20 +19,20 @@ use Rattle.reader_lists.proofs.edges.Tie as tie
 use Rattle.limits.specs.Limits.{edge-limit}
 
 abbrev Inv-loop : tie.InvT-loop
-Inv-loop s names st₀ channels₀ edges₀ n₀ room₀ st channels edges n room =
+Inv-loop period s names st₀ channels₀ edges₀ n₀ room₀ st channels edges n room =
     (h : Head) (init : ℕ) →
-    items-from room Edge s (state-of st names (whole (with-channels h channels) init edges n))
-    ≡ items Edge s (with-head names h init (before-edges st₀ channels₀))
+    items-from period room Edge s (state-of st names (whole (with-channels h channels) init edges n))
+    ≡ items period Edge s (with-head names h init (before-edges st₀ channels₀))
 
 abbrev μ-loop : tie.MeasureT-loop
-μ-loop s names st₀ channels₀ edges₀ n₀ room₀ st channels edges n room = room
+μ-loop period s names st₀ channels₀ edges₀ n₀ room₀ st channels edges n room = room
 
 loop-holds : tie.Need-loop-holds Inv-loop μ-loop
 unfolding items no-edges
 loop-holds c h init = rw (c .blank-edge .ensures)
 
 marked-requires : tie.Need-marked-requires Inv-loop μ-loop
-marked-requires c κs = rw (c .before .before .edge-next .ensures) (channel-small _ _ _ _ _)
+marked-requires c κs = rw (c .before .before .edge-next .ensures) (channel-small _ _ _ _ _ _)
 
 edge-room : (c : tie.After-marked Inv-loop μ-loop) →
     c .before .before .before .before .loop .n < edge-limit
@@ -55,7 +55,7 @@ one-edge :
     let now = whole (with-channels h (c .if1 .channels)) init (c .if1 .edges) (c .if1 .n) in
     let before = whole (with-channels h (loop .channels)) init (loop .edges) (loop .n) in
     state-of (c .before .edge-next .result .status) (args .names) now
-    ≡ edge-item (args .s .now) (state-of (loop .st) (args .names) before)
+    ≡ edge-item (args .period) (args .s .now) (state-of (loop .st) (args .names) before)
 unfolding edge-item with-edge
 one-edge c h init =
     let full = leb edge-limit (c .before .before .loop .n) in
@@ -68,7 +68,7 @@ returns : tie.Need-returns Inv-loop μ-loop
 returns c h init =
     let loop = c .before .before .before .before .before .loop in
     sym (loop .inv h init)
-    ∙ items-last _ _ _ (one-edge (c .before .before .before) h init) (loop .room)
+    ∙ items-last _ _ _ _ (one-edge (c .before .before .before) h init) (loop .room)
     (c .before .before .after-item .ensures) (not-true _ (c .if2 .taken))
 
 sub-room : tie.Need-sub-room Inv-loop μ-loop
@@ -83,7 +83,7 @@ loop-less c = omega (
 loop-again : tie.Need-loop-again Inv-loop μ-loop
 loop-again c h init =
     let loop = c .before .before .before .before .before .loop in
-    sym (items-more _ _ _ (one-edge (c .before .before .before) h init) (loop .room)
+    sym (items-more _ _ _ _ (one-edge (c .before .before .before) h init) (loop .room)
     (c .before .before .after-item .ensures) (not-false _ (c .if2 .left))) ∙ loop .inv h init
 
 pub edges-spec : {M : Type 1} → statement M

@@ -18,13 +18,13 @@ use Rattle.reader_lists.proofs.named_items.Tie as tie
 use Rattle.limits.specs.Limits.{channel-limit, clock-limit, location-limit}
 
 abbrev Inv-loop : tie.InvT-loop
-Inv-loop s k st₀ names₀ head₀ room₀ st names head room =
+Inv-loop period s k st₀ names₀ head₀ room₀ st names head room =
     (init : ℕ) (edges : List Edge) (count : ℕ) →
-    items-from room (item k) s (state-of st names (whole head init edges count))
-    ≡ items-from (limit (item k)) (item k) s (state-of st₀ names₀ (whole head₀ init edges count))
+    items-from period room (item k) s (state-of st names (whole head init edges count))
+    ≡ items-from period (limit (item k)) (item k) s (state-of st₀ names₀ (whole head₀ init edges count))
 
 abbrev μ-loop : tie.MeasureT-loop
-μ-loop s k st₀ names₀ head₀ room₀ st names head room = room
+μ-loop period s k st₀ names₀ head₀ room₀ st names head room = room
 
 loop-holds : tie.Need-loop-holds Inv-loop μ-loop
 loop-holds c init edges count = rw (c .limit .ensures)
@@ -32,7 +32,7 @@ loop-holds c init edges count = rw (c .limit .ensures)
 declare-requires : tie.Need-declare-requires Inv-loop μ-loop
 declare-requires c κs =
     let start = c .before .before .before .before .before .before .before .before in
-    (rw (c .before .first-slot .ensures, c .limit2 .ensures) (slots-fit (start .args .k)), start .pre)
+    (rw (c .before .first-slot .ensures, c .limit2 .ensures) (slots-fit (start .args .k)), start .pre .1)
 
 channel-room : (c : tie.After-unused Inv-loop μ-loop) →
     c .before .before .before .before .before .before .before .before .before .before .count .result < channel-limit
@@ -88,7 +88,7 @@ one-named :
     let args = c .before .before .before .before .before .before .before .before .before .before .before .args in
     let before = state-of (loop .st) (loop .names) (whole (loop .head) init edges count) in
     state-of (c .if1 .st) (c .if1 .names) (whole (c .if1 .head) init edges count)
-    ≡ one-item (item (args .k)) (args .s .now) before
+    ≡ one-item (args .period) (item (args .k)) (args .s .now) before
 unfolding channel-item clock-item location-item with-channel with-clock with-location
 one-named c init edges count =
     let a = c .before .before in
@@ -127,7 +127,7 @@ one-named c init edges count =
       w .4 .given .1,
       not-full text k m n (w .0 .taken) (w .4 .given .1),
     ))
-    (λ w. rw (w .1, w .2, w .3, d, f, l, n) (one-over k _ _ (full text k m n (w .0 .left))))))
+    (λ w. rw (w .1, w .2, w .3, d, f, l, n) (one-over _ k _ _ (full text k m n (w .0 .left))))))
     (c .if1 .came)
 
 returns : tie.Need-returns Inv-loop μ-loop
@@ -137,7 +137,7 @@ returns c init edges count =
     let loop = over .before .before .before .before .before .before .before .loop in
     rw (c .head-read .ensures)
     (sym (loop .inv init edges count)
-    ∙ items-last _ _ _ (one-named (over .before) init edges count) (loop .room)
+    ∙ items-last _ _ _ _ (one-named (over .before) init edges count) (loop .room)
     (over .after-item .ensures) (not-true _ (c .before .if2 .taken)))
 
 sub-room : tie.Need-sub-room Inv-loop μ-loop
@@ -152,7 +152,7 @@ loop-less c = omega (
 loop-again : tie.Need-loop-again Inv-loop μ-loop
 loop-again c init edges count =
     let loop = c .before .before .before .before .before .before .before .before .before .loop in
-    sym (items-more _ _ _ (one-named (c .before .before .before) init edges count) (loop .room)
+    sym (items-more _ _ _ _ (one-named (c .before .before .before) init edges count) (loop .room)
     (c .before .before .after-item .ensures) (not-false _ (c .if2 .left))) ∙ loop .inv init edges count
 
 pub named-items-spec : {M : Type 1} → statement M

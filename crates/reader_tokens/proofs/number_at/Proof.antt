@@ -5,13 +5,15 @@ use native.Mathlib.Omega.{arith}
 use Prim.Native.Nat.{_-_, _≤_}
 use mathlib.Core.Path.{_≡_, refl, sym, _∙_, ap}
 use lib.ListN.{length, drop}
-use Rattle.reader_tokens.specs.Scan.{numeral-value, over-constant, clamped}
-use Rattle.reader_tokens.proofs.Scan.{value-yes, value-no, value-end, clamped-small, clamped-value, clamped-bound}
+use Rattle.reader_tokens.specs.Scan.{numeral-value, over-numeral, clamped}
+use Rattle.reader_tokens.proofs.Scan.{value-yes, value-no, value-end, clamped-small, clamped-value}
+use Rattle.reader_tokens.specs.Clamped.{clamped-bound}
 use Rattle.reader_tokens.proofs.number_at.Statement.{statement}
 use Rattle.reader_tokens.proofs.number_at.Tie as tie
 
 abbrev Inv-loop : tie.InvT-loop
-Inv-loop s p v₀ i₀ v i = (v ≤ over-constant) × (clamped (numeral-value v (drop i s)) ≡ clamped (numeral-value 0 (drop p s)))
+Inv-loop s p v₀ i₀ v i = (v ≤ over-numeral)
+    × (clamped (numeral-value v (drop i s)) ≡ clamped (numeral-value 0 (drop p s)))
 
 abbrev μ-loop : tie.MeasureT-loop
 μ-loop s p v₀ i₀ v i = length s - i

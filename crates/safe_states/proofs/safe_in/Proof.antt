@@ -1,4 +1,4 @@
--- The outcome goes by codes 1 to 11, then 13, then by what `found` promises.
+-- The outcome goes by codes 24 and 1 to 11, then 13, then by what `found` promises.
 use borrow.Author.Needs.{needs}
 use mathlib.Core.Path.{_∙_}
 use native.Mathlib.Omega.{arith}
@@ -18,17 +18,18 @@ bytes-for-requires c κs =
     let start = c .before .before .before .before .before .before .before .before .before .before .before .before .before in
     let text = start .args .text .now in
     let judges = c .before .before .before .before .before .before .judge in
-    let loaded = judges .ensures ∙ measured-load text _ (start .pre .0) _ _ in
-    omega (arith, states-few text _ _ (judges .result) _ _ loaded (c .enum-told .given .1))
+    let loaded = judges .ensures ∙ measured-load _ text _ (start .pre .0) _ _ in
+    omega (arith, states-few _ text _ _ (judges .result) _ _ loaded (c .enum-told .given .1))
 
 returns : tie.Need-returns
 returns c =
     let start = c .before .before .before .before .before .before .before .before .before .before .before .before .before .before .before .before in
     let text = start .args .text .now in
     let judges = c .before .before .before .before .before .before .before .before .before .judge in
-    let loaded = judges .ensures ∙ measured-load text _ (start .pre .0) _ _ in
+    let loaded = judges .ensures ∙ measured-load _ text _ (start .pre .0) _ _ in
     let told = c .before .before .before .enum-told .given .1 in
-    safe-short text (start .args .keep .now) _ _ (judges .result) _ _ loaded told _ (c .before .before .bytes-for .ensures)
+    safe-short _ text (start .args .keep .now) _ _ (judges .result) _ _ loaded told _
+    (c .before .before .bytes-for .ensures)
     (c .before .if1 .taken) _ (c .keep-too-short .ensures)
 
 found-requires : tie.Need-found-requires
@@ -36,10 +37,11 @@ found-requires c κs =
     let start = c .before .before .before .before .before .before .before .before .before .before .before .before .before .before .before .before .before .before .before in
     let text = start .args .text .now in
     let judges = c .before .before .before .before .before .before .before .before .before .before .before .before .judge in
-    let loaded = judges .ensures ∙ measured-load text _ (start .pre .0) _ _ in
+    let loaded = judges .ensures ∙ measured-load _ text _ (start .pre .0) _ _ in
     let told = c .before .before .before .before .before .before .enum-told .given .1 in
-    let states = measured-states text _ (start .pre .0) (answer-is text _ _ (judges .result) _ _ loaded _ told) in
-    safe-ready text (start .args .keep .now) _ _ (judges .result) _ _ loaded told _ (c .before .before .before .before .before .bytes-for .ensures)
+    let states = measured-states _ text _ (start .pre .0) (answer-is _ text _ _ (judges .result) _ _ loaded _ told) in
+    safe-ready _ text (start .args .keep .now) _ _ (judges .result) _ _ loaded told _
+    (c .before .before .before .before .before .bytes-for .ensures)
     (c .before .before .before .before .if1 .left) _ states (start .pre .1)
 
 returns-2 : tie.Need-returns-2
@@ -48,17 +50,18 @@ returns-2 c =
     .before .before in
     let text = start .args .text .now in
     let judges = c .before .before .before .before .before .before .before .judge in
-    let loaded = judges .ensures ∙ measured-load text _ (start .pre .0) _ _ in
-    safe-refused text (start .args .keep .now) _ _ (judges .result) _ _ loaded _ (c .before .answer .given .1)
+    let loaded = judges .ensures ∙ measured-load _ text _ (start .pre .0) _ _ in
+    safe-refused _ text (start .args .keep .now) _ _ (judges .result) _ _ loaded _ (c .before .answer .given .1)
 
 returns-3 : tie.Need-returns-3
 returns-3 c =
     let start = c .before .before .before .before .before .before .before .before .before .before .before .before .before .before .before .before .before .before .before .before .before .before in
     let text = start .args .text .now in
     let judges = c .before .before .before .before .before .before .before .before .before .before .before .before .before .before .before .judge in
-    let loaded = judges .ensures ∙ measured-load text _ (start .pre .0) _ _ in
+    let loaded = judges .ensures ∙ measured-load _ text _ (start .pre .0) _ _ in
     let told = c .before .before .before .before .before .before .before .before .before .enum-told .given .1 in
-    safe-found text (start .args .keep .now) _ _ (judges .result) _ _ loaded told _ (c .before .before .before .before .before .before .before .before .bytes-for .ensures)
+    safe-found _ text (start .args .keep .now) _ _ (judges .result) _ _ loaded told _
+    (c .before .before .before .before .before .before .before .before .bytes-for .ensures)
     (c .before .before .before .before .before .before .before .if1 .left) _ (c .before .before .found .ensures)
 
 pub safe-in-spec : {M : Type 1} → statement M

@@ -1,15 +1,15 @@
--- `test_implementation::show_all` is safe and ends.
+-- Each turn goes on, within the slice.
 use borrow.Author.Needs.{needs}
-use Prim.Native.Nat.{_≤_, _-_}
+use Prim.Native.Nat.{_-_, _≤_}
 use lib.ListN.{length}
 use Rattle.test_implementation.proofs.show_all.Statement.{statement}
 use Rattle.test_implementation.proofs.show_all.Tie as tie
 
 abbrev Inv-loop : tie.InvT-loop
-Inv-loop s from₀ at₀ at-end from at = (at ≤ at-end) × (at-end ≤ length s)
+Inv-loop s from₀ from = from ≤ length s
 
 abbrev μ-loop : tie.MeasureT-loop
-μ-loop s from₀ at₀ at-end from at = at-end - at
+μ-loop s from₀ from = length s - from
 
 pub show-all-spec : {M : Type 1} → statement M
 show-all-spec =
@@ -18,12 +18,18 @@ show-all-spec =
     Inv-loop
     μ-loop
     (λ c. search needs)
+    (λ c κs. search needs)
+    (λ c κs. search needs)
+    (λ c κs. search needs)
+    (λ c. search needs)
+    (λ c. search needs)
     (λ c. search needs)
     (λ c κs. search needs)
     (λ c. search needs)
     (λ c. search needs)
     (λ c. search needs)
-    (λ c. search needs)
     (λ c κs. search needs)
+    (λ c κs. search needs)
+    (λ c. search needs)
     (λ c. search needs)
     (λ c. search needs))

@@ -14,8 +14,8 @@ search-requires c κs =
     .before .before .before .before .before .before .before .before .load-two in
     let accepted = c .before .before .before .before .before .before .before .before .before .before .enum-told .given
     .1 in (
-      loaded-ready (args .left .now) (args .right .now) _ _ _ _ (load .result) (load .ensures) accepted,
-      loaded-bits (args .left .now) (args .right .now) _ _ _ _ (load .result) (load .ensures) accepted,
+      loaded-ready (args .period) (args .left .now) (args .right .now) _ _ _ _ (load .result) (load .ensures) accepted,
+      loaded-bits (args .period) (args .left .now) (args .right .now) _ _ _ _ (load .result) (load .ensures) accepted,
     )
 
 returns : tie.Need-returns
@@ -24,7 +24,8 @@ returns c =
     .before .before .before .before .before .before .before .before .before .before .before .before .before .before
     .args in
     let load = c .before .before .before .before .before .before .before .before .before .before .before .load-two in (
-      search-refused (args .left .now) (args .right .now) _ _ _ _ (load .result) (load .ensures) (args .keep .now)
+      search-refused (args .period) (args .left .now) (args .right .now) _ _ _ _ (load .result) (load .ensures)
+          (args .keep .now)
           (length (args .back .now)) (length (args .line .now)) (args .run .now) _ (c .before .answer .given .1),
       λ f. (refl, refl),
     )
@@ -41,7 +42,8 @@ returns-2 c =
     let accepted = c .before .before .before .before .before .before .before .before .before .before .before .before
     .before .before .before .before .before .before .before .before .before .enum-told .given .1 in
     let done = c .before .before .before .before .before .before .before .before .before .before .search in (
-      search-done (args .left .now) (args .right .now) _ _ _ _ (load .result) (load .ensures) (args .keep .now)
+      search-done (args .period) (args .left .now) (args .right .now) _ _ _ _ (load .result) (load .ensures)
+          (args .keep .now)
           (length (args .back .now)) (length (args .line .now)) (args .run .now) accepted _ (done .ensures .0),
       done .ensures .1,
     )

@@ -17,12 +17,12 @@ paired-requires c κs =
     let loads = told .before .before .before .before .before .before in
     let start = loads .before .before .before .before .before .before .before in
     let text = start .args .right .now in
-    let loaded = loads .judge .ensures ∙ measured-load text _ (start .pre .1) _ _ in
-    let accepted = loaded-reading text _ _ (loads .judge .result) _ _ loaded (told .enum-told .given .1) in
-    let states = measured-states text _ (start .pre .1) (answer-is text _ accepted) in (
+    let loaded = loads .judge .ensures ∙ measured-load _ text _ (start .pre .1) _ _ in
+    let accepted = loaded-reading _ text _ _ (loads .judge .result) _ _ loaded (told .enum-told .given .1) in
+    let states = measured-states _ text _ (start .pre .1) (answer-is _ text _ accepted) in (
       start .pre .0,
       accepted,
-      loaded-wide text _ _ (loads .judge .result) _ _ loaded (told .enum-told .given .1) _ states (start .pre .2),
+      loaded-wide _ text _ _ (loads .judge .result) _ _ loaded (told .enum-told .given .1) _ states (start .pre .2),
     )
 
 returns : tie.Need-returns
@@ -31,8 +31,9 @@ returns c =
     let told = marks .before .before in
     let loads = told .before .before .before .before .before .before in
     let start = loads .before .before .before .before .before .before .before in
-    right-refused (start .args .left .now) (start .args .l) (start .pre .0) (start .args .right .now) _ _
-    (loads .judge .result) _ _ (loads .judge .ensures ∙ measured-load _ _ (start .pre .1) _ _) _ _ _ _ (told .answer .given .1) (marks .in-file .ensures)
+    right-refused _ (start .args .left .now) (start .args .l) (start .pre .0) (start .args .right .now) _ _
+    (loads .judge .result) _ _ (loads .judge .ensures ∙ measured-load _ _ _ (start .pre .1) _ _) _ _ _ _
+    (told .answer .given .1) (marks .in-file .ensures)
     (c .refused .ensures)
 
 returns-2 : tie.Need-returns-2
@@ -42,10 +43,11 @@ returns-2 c =
     let loads = told .before .before .before .before .before .before in
     let start = loads .before .before .before .before .before .before .before in
     let text = start .args .right .now in
-    let loaded = loads .judge .ensures ∙ measured-load text _ (start .pre .1) _ _ in
-    let accepted = loaded-reading text _ _ (loads .judge .result) _ _ loaded (told .enum-told .given .1) in
-    let states = measured-states text _ (start .pre .1) (answer-is text _ accepted) in
-    right-paired (start .args .left .now) (start .args .l) (start .pre .0) text _ _ (loads .judge .result) _ _ loaded _ _
+    let loaded = loads .judge .ensures ∙ measured-load _ text _ (start .pre .1) _ _ in
+    let accepted = loaded-reading _ text _ _ (loads .judge .result) _ _ loaded (told .enum-told .given .1) in
+    let states = measured-states _ text _ (start .pre .1) (answer-is _ text _ accepted) in
+    right-paired _ (start .args .left .now) (start .args .l) (start .pre .0) text _ _
+    (loads .judge .result) _ _ loaded _ _
     (told .enum-told .given .1) _ states (start .pre .2) (ends .paired .ensures)
 
 pub load-right-spec : {M : Type 1} → statement M

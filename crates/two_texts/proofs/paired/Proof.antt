@@ -8,21 +8,26 @@ use Rattle.two_texts.proofs.paired.Tie as tie
 pair-channels-requires : tie.Need-pair-channels-requires
 pair-channels-requires c κs =
     let start = c .before .before .before .before .before in (
-      reading-formed (start .args .left .now) (start .args .l) (start .pre .0),
-      reading-formed (start .args .right .now) (start .args .r) (start .pre .1),
+      reading-formed (start .args .period) (start .args .left .now) (start .args .l) (start .pre .0),
+      reading-formed (start .args .period) (start .args .right .now) (start .args .r) (start .pre .1),
     )
 
 add-width : tie.Need-add-width
 add-width c =
     let start = c .before .before .before .before .before .before .before .before .before .before in
-    omega (arith, reading-formed (start .args .left .now) (start .args .l) (start .pre .0) .channels)
+    omega (
+      arith,
+      reading-formed (start .args .period) (start .args .left .now) (start .args .l)
+          (start .pre .0) .channels,
+    )
 
 renumber-requires : tie.Need-renumber-requires
 renumber-requires c κs =
     let told = c .before .before .before in
     let pairs = told .before .before in
     let start = pairs .before .before .before .before .before .before in
-    paired-renumbers (start .args .left .now) (start .args .l) (start .args .right .now) (start .args .r)
+    paired-renumbers (start .args .period) (start .args .left .now) (start .args .l) (start .args .right .now)
+    (start .args .r)
     (start .pre .0) (start .pre .1) (pairs .pair-channels .result) (pairs .pair-channels .ensures)
     (told .enum-told .given .1) (start .args .moves .now) (start .pre .2)
 
@@ -30,8 +35,8 @@ accepted-requires : tie.Need-accepted-requires
 accepted-requires c κs =
     let later = c .before .before .before .before .before .before .before .before in
     let start = later .before .before .before .before .before .before in (
-      reading-sized (start .args .left .now) (start .args .l) (start .pre .0),
-      reading-sized (start .args .right .now) (start .args .r) (start .pre .1),
+      reading-sized (start .args .period) (start .args .left .now) (start .args .l) (start .pre .0),
+      reading-sized (start .args .period) (start .args .right .now) (start .args .r) (start .pre .1),
     )
 
 returns : tie.Need-returns
@@ -39,7 +44,8 @@ returns c =
     let told = c .before .before in
     let pairs = told .before .before in
     let start = pairs .before .before .before .before .before .before in
-    paired-refused (start .args .left .now) (start .args .l) (start .args .right .now) (start .args .r)
+    paired-refused (start .args .period) (start .args .left .now) (start .args .l) (start .args .right .now)
+    (start .args .r)
     (start .pre .0) (start .pre .1) (pairs .pair-channels .result) (pairs .pair-channels .ensures) _ _ _
     (told .answer .given .1) (c .refused .ensures)
 
@@ -49,7 +55,8 @@ returns-2 c =
     let told = writes .before .before .before .before in
     let pairs = told .before .before in
     let start = pairs .before .before .before .before .before .before in
-    paired-accepted (start .args .left .now) (start .args .l) (start .args .right .now) (start .args .r)
+    paired-accepted (start .args .period) (start .args .left .now) (start .args .l) (start .args .right .now)
+    (start .args .r)
     (start .pre .0) (start .pre .1) (pairs .pair-channels .result) (pairs .pair-channels .ensures)
     (told .enum-told .given .1) _ _ _ (writes .renumber .ensures) (c .accepted .ensures)
 

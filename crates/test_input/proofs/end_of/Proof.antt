@@ -1,15 +1,15 @@
--- `test_clocks::text_end` meets its contract: its loop by an invariant, from the callees' contracts.
+-- The place goes on within the slice.
 use Prim.Native.Nat.{_-_, _≤_}
 use native.Mathlib.Omega.{arith}
 use lib.ListN.{length}
-use Rattle.test_clocks.proofs.text_end.Statement.{statement}
-use Rattle.test_clocks.proofs.text_end.Tie as tie
+use Rattle.test_input.proofs.end_of.Statement.{statement}
+use Rattle.test_input.proofs.end_of.Tie as tie
 
 abbrev Inv-loop : tie.InvT-loop
-Inv-loop s from at₀ at = (from ≤ at) × (at ≤ length s)
+Inv-loop s from byte at₀ at = (from ≤ at) × (at ≤ length s)
 
 abbrev μ-loop : tie.MeasureT-loop
-μ-loop s from at₀ at = length s - at
+μ-loop s from byte at₀ at = length s - at
 
 loop-holds : tie.Need-loop-holds Inv-loop μ-loop
 loop-holds c = (omega arith, omega arith)
@@ -32,8 +32,8 @@ loop-again c = (omega arith, omega arith)
 returns-2 : tie.Need-returns-2 Inv-loop μ-loop
 returns-2 c = (omega arith, omega arith)
 
-pub text-end-spec : {M : Type 1} → statement M
-text-end-spec =
+pub end-of-spec : {M : Type 1} → statement M
+end-of-spec =
     tie.close
     (tie.spec
     Inv-loop
