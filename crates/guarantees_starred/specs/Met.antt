@@ -1,12 +1,14 @@
--- That the hypotheses of the demands (SPECIFICATION 17.2, 17.3, 17.8) can be met: by Post (SPECIFICATION 16.1) against
--- itself, with slices that are long enough.
+-- That the hypotheses of the demands (SPECIFICATION 17.2, 17.3, 17.8, 17.9) can be met: by Post (SPECIFICATION 16.1)
+-- against itself, with slices that are long enough, and by Sheet at tick length 1,000.
 use mathlib.Core.Path.{_≡_, sym, ap, subst, _∙_}
 use mathlib.Core.Bool.{Bool, true}
 use mathlib.Core.List.{List}
 use Prim.Native.Nat.{ℕ, _≤_}
+use native.Mathlib.Omega.{arith}
 use lib.Dec.{T}
 use lib.ListN.{length}
-use Rattle.reader_examples.specs.Texts.{post, strict, loose, hush}
+use Rattle.reader_examples.specs.Texts.{post, strict, loose, sheet, hush}
+use Rattle.clocks_read.specs.declared.Reading.{Reading}
 use Rattle.systems.specs.Tests.{at}
 use Rattle.systems.specs.Finite.{safe}
 use Rattle.reachable.specs.declared.Finding.the-variants.{OutputBesideTick, NeitherPossible}
@@ -17,15 +19,17 @@ use Rattle.tables_header.specs.Header.{fits}
 use Rattle.demands.specs.Long.{no-refusal}
 use Rattle.demands.specs.Words.{Consistent, Long-enough, search-refusal, check-refusal, widest-refusal, Right-form}
 use Rattle.guarantees.specs.Texts.{Accepted-text, states, meaning, number, Equal-channels}
-use Rattle.guarantees.specs.Guarantees.{implementation-exactly}
+use Rattle.guarantees.specs.Lengths.{Length-refused}
+use Rattle.guarantees.specs.Guarantees.{lengths-judged, implementation-exactly}
 use Rattle.guarantees.specs.Setting.{left-capping, Left}
 use Rattle.guarantees_starred.specs.Posts.{post-keep, post-known, strict-known}
 use Rattle.guarantees_starred.specs.Runs.{post-post-equal, strict-post-equal}
 use Rattle.guarantees_starred.specs.Sentences.{Room, ten-by-ten, diagonal-raster}
 use Rattle.guarantees_starred.specs.Tables.{diagonal-fits}
 use Rattle.guarantees_starred.specs.Outcomes.{left-accepted, right-accepted, channels-equal, facts}
+use Rattle.guarantees_starred.specs.Implementations.{sheet-1000}
 use Rattle.guarantees_starred.specs.Starred.{starred-posts}
-use Rattle.limits.specs.Limits.{shortest-tick}
+use Rattle.limits.specs.Limits.{shortest-tick, Tick-length}
 
 -- an accepted text
 pub post-accepted : Accepted-text shortest-tick post
@@ -34,6 +38,20 @@ post-accepted = left-accepted post-known post-known post-post-equal
 -- an accepted text with strict signs (SPECIFICATION 16.2)
 pub strict-accepted : Accepted-text shortest-tick strict
 strict-accepted = left-accepted strict-known post-known strict-post-equal
+
+-- an accepted text at another tick length than 1, which is an implementation there (SPECIFICATION 16.9)
+pub sheet-accepted : Accepted-text 1000 sheet
+sheet-accepted = ap (λ (r : Reading). r .answer) sheet-1000
+
+pub sheet-own : Own-implementation (meaning 1000 sheet sheet-accepted) (number 1000 sheet sheet-accepted)
+sheet-own = implementation-exactly 1000 sheet .itself (starred-posts .sheet-passes) sheet-accepted
+
+-- a tick length that is allowed, as its being accepted says, and one that is not: SPECIFICATION 17.9 has both cases
+pub length-allowed : Tick-length 1000
+length-allowed = lengths-judged 1000 .accepted sheet sheet-accepted
+
+pub length-refused : Length-refused 0
+length-refused = lengths-judged 0 .refused (λ t. omega (arith, t .0))
 
 -- texts for which the implementation check succeeds, gives 22 and gives 23: what SPECIFICATION 17.8 says of each answer
 -- is said of one
