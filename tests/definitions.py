@@ -6,7 +6,8 @@ opaque: only its type is seen, which the prover has checked, so it is a law. For
 - it is there, and has no public law of its own;
 - what it takes from an unlisted file of the project is a law there;
 - the structs and enums it speaks of stand in src/, where the reader finds them.
-And every must-fail edit stands in docs/PROMISES.md, and every edit that it names is there; every clause that a file cites, as
+And every must-fail edit stands in docs/PROMISES.md, every edit that it names is there, and the text that an edit replaces
+stands once in its file; every clause that a file cites, as
 SPECIFICATION with its number, stands in docs/SPECIFICATION.md; and no file names a paper that is not in the repository.
 Run it at the repository's root; the exit status is 0 when all of it holds.
 """
@@ -91,6 +92,20 @@ def edits():
     return sorted(there - named), sorted(n for n in named - there if n.split("/")[0] in os.listdir("crates"))
 
 
+def unfit():
+    """The edits whose old text does not stand exactly once in their file: the gate would refuse the edit itself."""
+    wrong = []
+    for crate in sorted(os.listdir("crates")):
+        folder = f"crates/{crate}/must-fail"
+        for name in sorted(os.listdir(folder)) if os.path.isdir(folder) else []:
+            lines = open(f"{folder}/{name}", encoding="utf-8").read().split("\n")
+            word = {key: next((l[len(key) + 2:] for l in lines if l.startswith(key + ": ")), "") for key in ("file", "old")}
+            text = open(f"crates/{crate}/{word['file'].strip()}", encoding="utf-8").read()
+            if not word["old"] or text.count(word["old"]) != 1:
+                wrong.append(f"{crate}/{name[:-5]}")
+    return wrong
+
+
 def every_file():
     """The repository's files as text: (path, text). What rt, cargo and git make is left out."""
     for folder, inner, names in os.walk("."):
@@ -152,10 +167,13 @@ def main():
         print(f"{edit}: a must-fail edit that docs/PROMISES.md does not name")
     for edit in missing:
         print(f"{edit}: named in docs/PROMISES.md, but not there")
+    lost = unfit()
+    for edit in lost:
+        print(f"{edit}: the text that this must-fail edit replaces does not stand once in its file")
     wrong, citations = papers()
     for line in wrong:
         print(line)
-    faults += len(unnamed) + len(missing) + len(wrong)
+    faults += len(unnamed) + len(missing) + len(lost) + len(wrong)
     print(f"{len(files)} files of definitions, {citations} citations of clauses, {faults} faults")
     return 1 if faults else 0
 
