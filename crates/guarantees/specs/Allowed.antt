@@ -1,6 +1,6 @@
 -- Tick lengths are as Lengths.antt asks: 24 is judged first, and no later judgement gives it.
 use mathlib.Core.Path.{_≡_, refl, sym, ap, subst, _∙_}
-use mathlib.Core.Bool.{Bool, true, false, not, _||_, cond}
+use mathlib.Core.Bool.{Bool, true, false, not, _||_}
 use mathlib.Core.Option.{Option, none, some}
 use mathlib.Core.List.{List}
 use Prim.Native.Nat.{ℕ, _*_, _≤_}
@@ -20,6 +20,7 @@ use Rattle.systems.specs.Finite.{Finite-system}
 use Rattle.reader_record.specs.declared.Text.{Text}
 use Rattle.reader.specs.declared.Parsed.{Parsed}
 use Rattle.reader.specs.Reading as reader
+use Rattle.reader_formed.specs.Cases.{either}
 use Rattle.reader_constraints.specs.Ticks.{ticks-below, ticks-above, one-millisecond}
 use Rattle.reachable.specs.declared.Finding.{Finding}
 use Rattle.reachable.specs.declared.Finding.the-variants.{Nothing, OutputBesideTick, NeitherPossible}
@@ -108,11 +109,6 @@ earlier-some f h r e =
     let same : f .code ≡ r .code = ap (λ (x : Refusal). x .code) z in
     omega (arith, h, same)
 
--- what holds of both of two cases
-by-cond : {X : Type 0} (P : X → Type 0) (b : Bool) {x y : X} → P x → P y → P (cond b x y)
-by-cond P true p q = p
-by-cond P false p q = q
-
 -- the judgement that comes first
 or-earlier : (a b : Option Refusal) → Earlier a → Earlier b → Earlier (or-else a b)
 unfolding or-else
@@ -170,7 +166,7 @@ module _ (period : ℕ) (allowed : tick-allowed period ≡ true) where
   -- codes 1 to 12 of two texts
   long-earlier : (file : ℕ) (s : List ℕ) → Earlier (too-long-in file s)
   unfolding too-long-in
-  long-earlier file s = by-cond Earlier (ltb largest-text (length s))
+  long-earlier file s = either Earlier (ltb largest-text (length s))
       (earlier-some (in-file file text-too-long) (omega arith)) earlier-none
 
   refused-earlier : (file : ℕ) (s : List ℕ) → Earlier (refused-in file (read-outcome period s .answer))
@@ -182,7 +178,7 @@ module _ (period : ℕ) (allowed : tick-allowed period ≡ true) where
       → Earlier (refused-pairing (channels.unmatched left l right r))
   unfolding channels.unmatched channels.verdict refused-pairing
   pairing-earlier left l right r =
-      by-cond P (eqb c 0) (by-cond P (eqb d 0) earlier-none
+      either P (eqb c 0) (either P (eqb d 0) earlier-none
       (earlier-some (unmatched-channel right-file d) (omega arith)))
       (earlier-some (unmatched-channel left-file c) (omega arith))
     where
@@ -216,12 +212,12 @@ module _ (period : ℕ) (allowed : tick-allowed period ≡ true) where
     searched : (back line : ℕ) (run : List ℕ) → Earlier (search-refusal (search-systems L R keep back line run .answer))
     unfolding search-systems search-refusal
     searched back line run =
-        by-cond P (ltb (length keep) (bytes-for (L .size)))
+        either P (ltb (length keep) (bytes-for (L .size)))
         (earlier-some (keep-too-short (bytes-for (L .size))) (omega arith))
-        (by-cond P (ltb back (L .size * R .size) || ltb line (L .size * R .size))
+        (either P (ltb back (L .size * R .size) || ltb line (L .size * R .size))
         (earlier-some (queue-too-short (L .size * R .size)) (omega arith))
-        (by-cond P (not (finite.safe L (L .start))) (earlier-some (start-not-safe (L .start)) (omega arith))
-        (by-cond P (ltb (length run) (length (finite.search-run L R)))
+        (either P (not (finite.safe L (L .start))) (earlier-some (start-not-safe (L .start)) (omega arith))
+        (either P (ltb (length run) (length (finite.search-run L R)))
         (earlier-some (run-too-short (length (finite.search-run L R))) (omega arith)) earlier-none)))
       where
         P : search.Outcome → Type 0
@@ -236,11 +232,11 @@ module _ (period : ℕ) (allowed : tick-allowed period ≡ true) where
     checked-earlier : (table : List ℕ) → Earlier (check-refusal (check-systems L R keep table .answer))
     unfolding check-systems check-refusal
     checked-earlier table =
-        by-cond P (ltb (length keep) (bytes-for (L .size)))
+        either P (ltb (length keep) (bytes-for (L .size)))
         (earlier-some (keep-too-short (bytes-for (L .size))) (omega arith))
-        (by-cond P (not (fits (R .size) (L .size) table)) (earlier-some other-table (omega arith))
-        (by-cond P (not (finite.safe L (L .start))) (earlier-some (start-not-safe (L .start)) (omega arith))
-        (by-cond P (not (set-at (R .size) (drop (header-bytes (R .size) (L .size)) table) (L .start) (R .start)))
+        (either P (not (fits (R .size) (L .size) table)) (earlier-some other-table (omega arith))
+        (either P (not (finite.safe L (L .start))) (earlier-some (start-not-safe (L .start)) (omega arith))
+        (either P (not (set-at (R .size) (drop (header-bytes (R .size) (L .size)) table) (L .start) (R .start)))
         (earlier-some (start-pair-not-set (L .start) (R .start)) (omega arith)) (scanned-earlier _ _ _))))
       where
         P : Checked → Type 0
@@ -249,11 +245,11 @@ module _ (period : ℕ) (allowed : tick-allowed period ≡ true) where
     widened-earlier : (table : List ℕ) → Earlier (widest-refusal (widest-systems L R keep table .answer))
     unfolding widest-systems widest-refusal
     widened-earlier table =
-        by-cond P (ltb (length keep) (bytes-for (L .size)))
+        either P (ltb (length keep) (bytes-for (L .size)))
         (earlier-some (keep-too-short (bytes-for (L .size))) (omega arith))
-        (by-cond P (ltb (length table) (table-bytes (R .size) (L .size)))
+        (either P (ltb (length table) (table-bytes (R .size) (L .size)))
         (earlier-some (table-too-short (table-bytes (R .size) (L .size))) (omega arith))
-        (by-cond P (not (finite.safe L (L .start)))
+        (either P (not (finite.safe L (L .start)))
         (earlier-some (start-not-safe (L .start)) (omega arith)) earlier-none))
       where
         P : Widened → Type 0
