@@ -13,7 +13,7 @@ use Rattle.clocks.specs.States.{input, next}
 use Rattle.bitmaps.specs.Packed.{bytes-for}
 use Rattle.clocks_read.specs.Reading.{read-outcome}
 use Rattle.search.specs.declared.SearchAnswer.the-variants.{Found, Refused}
-use Rattle.tables_header.specs.Header.{ascii}
+use Rattle.byte_slices.specs.Decimal.{ascii}
 use Rattle.tables.specs.declared.CheckAnswer.the-variants as checked
 use Rattle.tables.specs.declared.WidestAnswer.the-variants as made
 use Rattle.two_operations.specs.Outcome.{search-outcome, check-outcome, widest-outcome}

@@ -16,7 +16,8 @@ use Rattle.tables_check.specs.declared.Fault.the-variants.{Fine, NotAllowed}
 use Rattle.tables_check.specs.declared.Found.{Found}
 use Rattle.tables_check.specs.declared.Found.the-variants.{Passed, BrokenAt}
 use Rattle.tables_check.specs.Judged.{breaks, least-broken, pair-fault, pairs-judged}
-use Rattle.tables_header.specs.Header.{digit, digits, decimal, header, header-bytes, table-bytes, begins, fits}
+use Rattle.byte_slices.specs.Decimal.{digit, digits, decimal}
+use Rattle.tables_header.specs.Header.{header, header-bytes, table-bytes, begins, fits}
 use Rattle.tables_rows.specs.Raster.{set-at, denoted, in-row, raster}
 use Rattle.tables_whole.specs.TableFile.{table-file}
 use Rattle.tables.specs.declared.WidestAnswer.{WidestAnswer}

@@ -28,7 +28,7 @@ use Rattle.clocks.specs.Contract.{signature}
 use Rattle.clocks_read.specs.Reading.{read-outcome}
 use Rattle.two_texts.specs.Two.{text-of, two-judged, left-system, right-system}
 use Rattle.two_texts.specs.Laws.{judged-none, compared, named, judged-by-none, judged-by-some}
-use Rattle.tables_header.specs.Header.{ascii}
+use Rattle.byte_slices.specs.Decimal.{ascii}
 use Rattle.search.specs.declared.SearchAnswer.{SearchAnswer}
 use Rattle.search.specs.declared.SearchAnswer.the-variants as answer
 use Rattle.search.specs.Outcome as search

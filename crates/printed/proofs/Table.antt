@@ -30,7 +30,7 @@ use Rattle.tables.specs.declared.WidestAnswer.the-variants as answer
 use Rattle.tables.specs.Outcome.{Widened, widest-refused, widest-systems}
 use Rattle.two_operations.specs.Outcome.{widest-outcome}
 use Rattle.demands.specs.Files.{file-length}
-use Rattle.printed_lines.specs.Laid.{Laid, laid}
+use Rattle.byte_slices.specs.Laid.{Laid, laid}
 use Rattle.printed_lines.specs.Lines.{refusal-line}
 use Rattle.printed.specs.Prints.{program-tick, zeros, table-printed, widest-prints}
 

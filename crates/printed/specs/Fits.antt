@@ -17,7 +17,7 @@ use Rattle.clocks.specs.States.{judgement}
 use Rattle.clocks.specs.Judgement.{judgement-few}
 use Rattle.clocks_read.specs.Reading.{refused, judged-reading, parsed-reading, read-outcome}
 use Rattle.tables_header.specs.Header.{header, header-bytes, table-bytes, table-limit}
-use Rattle.tables_header.specs.Decimal.{decimal-within}
+use Rattle.byte_slices.specs.DecimalLaws.{decimal-within}
 use Rattle.printed.specs.Prints.{program-tick, zeros}
 
 -- a slice of zeros is as long as it says

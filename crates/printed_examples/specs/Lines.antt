@@ -3,7 +3,7 @@
 use mathlib.Core.Path.{_≡_}
 use Prim.Native.Nat.{ℕ, _≤_}
 use Rattle.reader_examples.specs.Texts.{post, rearm, loose, hush}
-use Rattle.tables_header.specs.Header.{ascii}
+use Rattle.byte_slices.specs.Decimal.{ascii}
 use Rattle.guarantees_starred.specs.Sentences.{widest-raster, diagonal-raster, start-raster, ten-by-ten}
 use Rattle.printed.specs.Prints.{megzhoi-prints, widest-prints, recheck-prints, implementation-prints}
 

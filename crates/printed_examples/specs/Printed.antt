@@ -10,7 +10,7 @@ use Rattle.reader_examples.specs.Records.{rearm-record}
 use Rattle.systems.specs.Definitions.{tick}
 use Rattle.clocks_read.specs.declared.Reading.{Reading}
 use Rattle.search.specs.Outcome.{Outcome}
-use Rattle.tables_header.specs.Header.{ascii, decimal, digits, digit}
+use Rattle.byte_slices.specs.Decimal.{ascii, decimal, digits, digit}
 use Rattle.guarantees_starred.specs.Sentences.{Room, widest-raster, ten-by-ten}
 use Rattle.guarantees_starred.specs.Tables.{file-size}
 use Rattle.guarantees_starred.specs.Starred.{starred-posts}

@@ -15,22 +15,11 @@ use Rattle.bitmaps.specs.BitLaws.{less}
 use Rattle.refusals.specs.declared.Refusal.{Refusal}
 use Rattle.reader_record.specs.declared.Channel.{Channel}
 use Rattle.reader_record.specs.Record.{no-channel}
-use Rattle.tables_header.specs.Header.{ascii, digit, decimal, space}
-use Rattle.tables_header.specs.Decimal.{decimal-one, decimal-more, decimal-within}
+use Rattle.byte_slices.specs.Decimal.{ascii, digit, decimal}
+use Rattle.tables_header.specs.Header.{space}
+use Rattle.byte_slices.specs.DecimalLaws.{decimal-one, decimal-more, decimal-within}
 use Rattle.printed_lines.specs.Room.{most-digits, line-limit}
 use Rattle.printed_lines.specs.Lines.{spaced, line, refusal-line, channel-line, step-line, step-lines}
-
--- the last digit of a number
-abbrev pub last : ℕ → ℕ
-last n = 48 + n % 10
-
-pub one-digit : (n : ℕ) → n < 10 → last n ∷ [] ≡ decimal n
-unfolding digit
-one-digit n h = let e : n % 10 ≡ n = omega arith in rw e (sym (decimal-one n h))
-
-pub more-digits : (n : ℕ) → 10 ≤ n → decimal (n / 10) ++ (last n ∷ []) ≡ decimal n
-unfolding digit
-more-digits n h = sym (decimal-more n h)
 
 -- a number of 64 bits has few digits, and so a line of such numbers few bytes
 pub spaced-short : (n : ℕ) → n < 18446744073709551616 → length (space ++ decimal n) ≤ most-digits + 1

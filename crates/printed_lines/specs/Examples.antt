@@ -3,7 +3,7 @@ use mathlib.Core.Path.{_≡_, refl}
 use mathlib.Core.List.{[], _∷_}
 use Rattle.refusals.specs.Refusals.{start-not-safe, rule-broken}
 use Rattle.reader_record.specs.declared.Direction.the-variants.{Input, Output}
-use Rattle.tables_header.specs.Header.{ascii, digit, digits, decimal}
+use Rattle.byte_slices.specs.Decimal.{ascii, digit, digits, decimal}
 use Rattle.printed_lines.specs.Lines.{spaced, line, refusal-line, direction-mark, channel-line, step-line, step-lines, departure-lines}
 
 -- an unsafe start

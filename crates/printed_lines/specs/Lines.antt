@@ -11,7 +11,8 @@ use Rattle.reader_record.specs.declared.Direction.the-variants.{Unused, Input, 
 use Rattle.reader_record.specs.declared.Channel.{Channel}
 use Rattle.reader_record.specs.Record.{no-channel}
 use Rattle.pairing.specs.Channels.{spelling}
-use Rattle.tables_header.specs.Header.{ascii, decimal, space, line-end}
+use Rattle.byte_slices.specs.Decimal.{ascii, decimal}
+use Rattle.tables_header.specs.Header.{space, line-end}
 
 -- numbers in decimal, each after one space
 unfoldable pub spaced : List ℕ → List ℕ

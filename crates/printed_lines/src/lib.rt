@@ -1,5 +1,8 @@
 // The lines that the programs print, made in a slice. Each function puts bytes at a place and returns the place behind
 // them; a byte for which the slice has no place is dropped, so no function asks for a length.
+use byte_slices::put_byte;
+use byte_slices::put_bytes;
+use byte_slices::put_number;
 use limits::CHANNEL_LIMIT;
 use reader_record::Channel;
 use reader_record::Direction;
@@ -12,15 +15,14 @@ ghost use Prim.Native.Nat.{_+_, _-_, _<_, _≤_, min};
 ghost use lib.ListN.{length, getD};
 ghost use Rattle.reader_record.specs.Record.{no-channel};
 ghost use Rattle.pairing.specs.Channels.{spelling};
-ghost use Rattle.tables_header.specs.Header.{ascii, decimal, space};
-ghost use Rattle.printed_lines.specs.Put.{Puts};
+ghost use Rattle.byte_slices.specs.Decimal.{ascii, decimal};
+ghost use Rattle.tables_header.specs.Header.{space};
+ghost use Rattle.byte_slices.specs.Put.{Puts};
 ghost use Rattle.printed_lines.specs.Room.{most-digits, line-limit};
 ghost use Rattle.printed_lines.specs.Lines.{line, refusal-line, yes-line, passed-line, accepted-line};
 ghost use Rattle.printed_lines.specs.Lines.{direction-mark, channel-line, step-line, step-lines, departure-lines};
 
-// The base of the numbers, and what stands between and behind them.
-const TEN: usize = 10;
-
+// What stands between the numbers and behind them.
 const SPACE: u8 = b' ';
 
 const LINE_END: u8 = b'\n';
@@ -34,42 +36,6 @@ const REFUSED_BYTES: usize = 7;
 const REFUSED_NUMBERS: usize = 4;
 
 pub const LINE_LIMIT: usize = REFUSED_BYTES + REFUSED_NUMBERS * (MOST_DIGITS + 1) + 1;
-
-// One byte.
-fn put_byte(out: &mut [u8], at: usize, b: u8) -> usize
-    ensures { λ r. ⌜ Puts (now (out .entry)) at (b ∷ []) (now (out .exit)) r ⌝ }
-{
-    if out.len() <= at {
-        return at;
-    }
-    out[at] = b;
-    at + 1
-}
-
-// Bytes, one after another.
-fn put_bytes(out: &mut [u8], at: usize, bytes: &[u8]) -> usize
-    ensures { λ r. ⌜ Puts (now (out .entry)) at (now (bytes .entry)) (now (out .exit)) r ⌝ }
-{
-    let mut place = at;
-    let mut i: usize = 0;
-    while i < bytes.len() {
-        place = put_byte(out, place, bytes[i]);
-        i += 1;
-    }
-    place
-}
-
-// A number in decimal: the digits in front of the last one, then the last one.
-fn put_number(out: &mut [u8], at: usize, n: usize) -> usize
-    ensures { λ r. ⌜ Puts (now (out .entry)) at (decimal n) (now (out .exit)) r ⌝ }
-{
-    let last = b'0' + (n % TEN) as u8;
-    if n < TEN {
-        return put_byte(out, at, last);
-    }
-    let place = put_number(out, at, n / TEN);
-    put_byte(out, place, last)
-}
 
 // A space and a number.
 fn put_spaced(out: &mut [u8], at: usize, n: usize) -> usize

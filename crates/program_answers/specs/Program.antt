@@ -27,7 +27,7 @@ use Rattle.demands.specs.Demands.{Search-demand}
 use Rattle.demands.specs.Answers.{Search-answers, Widest-answers}
 use Rattle.guarantees.specs.Texts.{Accepted-text, Equal-channels, states, meaning, number, right-meaning, right-number}
 use Rattle.guarantees.specs.Guarantees.{safe-states-exist, texts-judged, search-judged, demand-1-search, demand-1-widest, demand-2-widest, demand-3}
-use Rattle.tables_header.specs.Header.{ascii}
+use Rattle.byte_slices.specs.Decimal.{ascii}
 use Rattle.printed_lines.specs.Lines.{line, step-lines, departure-lines}
 use Rattle.printed.specs.Prints.{program-tick, zeros, entries, counted-bytes, widest-line, search-lines, megzhoi-prints}
 use Rattle.printed.specs.Fits.{zeros-length, few-read}

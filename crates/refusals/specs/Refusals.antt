@@ -113,3 +113,11 @@ neither-possible state = record { code = 23; file = left-file; p = state; q = 0 
 -- 24: a tick length that is not allowed (SPECIFICATION 4.7)
 abbrev pub tick-out-of-range : ℕ → Refusal
 tick-out-of-range period = record { code = 24; file = no-file; p = period; q = 0 }
+
+-- 25: two texts whose joined text would pass a limit (SPECIFICATION 18.8)
+abbrev pub limit-exceeded : Refusal
+limit-exceeded = record { code = 25; file = no-file; p = 0; q = 0 }
+
+-- 26: too few bytes for the joined text (SPECIFICATION 18.9)
+abbrev pub out-too-short : ℕ → Refusal
+out-too-short bytes = record { code = 26; file = no-file; p = bytes; q = 0 }

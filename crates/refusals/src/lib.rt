@@ -3,7 +3,7 @@ use steps::Step;
 ghost use mathlib.Core.Path.{_≡_};
 ghost use Prim.Native.Nat.{_≤_, _<_};
 ghost use Rattle.limits.specs.Limits.{state-limit};
-ghost use Rattle.refusals.specs.Refusals.{in-file, text-too-long, misfit, name-too-long, declared-before, unknown-name, constant-too-large, too-many-items, other-mark, too-many-states, input-without-move, two-edges, unmatched-channel, keep-too-short, table-too-short, queue-too-short, other-table, start-not-safe, start-pair-not-set, pair-not-allowed, rule-broken, run-too-short, output-beside-tick, neither-possible, tick-out-of-range};
+ghost use Rattle.refusals.specs.Refusals.{in-file, text-too-long, misfit, name-too-long, declared-before, unknown-name, constant-too-large, too-many-items, other-mark, too-many-states, input-without-move, two-edges, unmatched-channel, keep-too-short, table-too-short, queue-too-short, other-table, start-not-safe, start-pair-not-set, pair-not-allowed, rule-broken, run-too-short, output-beside-tick, neither-possible, tick-out-of-range, limit-exceeded, out-too-short};
 
 // The file that a refusal concerns: the left or only text, the right text, or none (SPECIFICATION 13.2).
 pub const LEFT_FILE: usize = 1;
@@ -12,7 +12,7 @@ pub const RIGHT_FILE: usize = 2;
 
 pub const NO_FILE: usize = 0;
 
-// `code` is 1 to 24; `file` is one of the marks above.
+// `code` is 1 to 26; `file` is one of the marks above.
 pub struct Refusal {
     pub code: usize,
     pub file: usize,
@@ -300,6 +300,28 @@ impl Refusal {
             code: 24,
             file: NO_FILE,
             p: period,
+            q: 0,
+        }
+    }
+
+    pub fn limit_exceeded() -> Refusal
+        ensures { λ r. ⌜ r ≡ limit-exceeded ⌝ }
+    {
+        Refusal {
+            code: 25,
+            file: NO_FILE,
+            p: 0,
+            q: 0,
+        }
+    }
+
+    pub fn out_too_short(bytes: usize) -> Refusal
+        ensures { λ r. ⌜ r ≡ out-too-short bytes ⌝ }
+    {
+        Refusal {
+            code: 26,
+            file: NO_FILE,
+            p: bytes,
             q: 0,
         }
     }

@@ -12,9 +12,10 @@ use lib.ListN.{length, getD, drop, length-append, length-drop, drop-of-length-le
 use lib.Seq.{drop-cons, getD-append-add, getD-drop}
 use Rattle.bitmaps.specs.Bits.{written}
 use Rattle.bitmaps.specs.BitLaws.{less, written-is}
-use Rattle.tables_header.specs.Header.{digit, digits, decimal, magic-line, magic-bytes, space, line-end, header, header-bytes, begins}
+use Rattle.byte_slices.specs.Decimal.{digit, digits, decimal}
+use Rattle.tables_header.specs.Header.{magic-line, magic-bytes, space, line-end, header, header-bytes, begins}
 use Rattle.limits.specs.Limits.{state-limit}
-use Rattle.tables_header.specs.Decimal.{digits-one, digits-more, decimal-more, decimal-one, decimal-length, length-one}
+use Rattle.byte_slices.specs.DecimalLaws.{digits-one, digits-more, decimal-more, decimal-one, decimal-length, length-one}
 
 -- a number has at most one digit more than its value
 digits-few : (k n : ℕ) → length (digits k n) ≤ k

@@ -1,31 +1,12 @@
 -- A table as a file, a Netpbm raw PBM: the header and how long the table is (SPECIFICATION 11.1, 11.2).
 use mathlib.Core.Bool.{Bool, true, false, _&&_}
 use mathlib.Core.List.{List, [], _∷_, _++_}
-use Prim.Native.Nat.{ℕ, zero, suc, _+_, _*_, _/_, _%_}
-use Prim.Native.Char.{code}
-use Prim.Native.String.{String}
-use lib.Dec.{eqb, ltb}
-use lib.ListN.{length, getD}
+use Prim.Native.Nat.{ℕ, _+_, _*_}
+use lib.Dec.{eqb}
+use lib.ListN.{length}
 use Rattle.limits.specs.Limits.{state-limit, keep-limit}
 use Rattle.bitmaps.specs.Packed.{bytes-for}
-
--- a string's bytes
-abbrev pub ascii : String → List ℕ
-ascii String.[] = []
-ascii (String._∷_ c s) = code c ∷ ascii s
-
--- the character of a digit below 10
-unfoldable pub digit : ℕ → ℕ
-digit d = getD (ascii "0") 0 0 + d
-
--- the decimal digits of n, the first of them no zero unless n is 0; at most k of them
-unfoldable pub digits : ℕ → ℕ → List ℕ
-digits zero n = []
-digits (suc k) n = elim (ltb n 10) [ true ↦ digit n ∷ [] | false ↦ digits k (n / 10) ++ (digit (n % 10) ∷ []) ]
-
--- a number in decimal, without leading zeros (SPECIFICATION 11.1): n + 1 digits are always enough
-unfoldable pub decimal : ℕ → List ℕ
-decimal n = digits (suc n) n
+use Rattle.byte_slices.specs.Decimal.{ascii, decimal}
 
 -- `P4` and LF, the space between the numbers, and the LF at the end
 abbrev pub magic-line : List ℕ

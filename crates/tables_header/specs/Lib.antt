@@ -1,3 +1,2 @@
 pub mod Header
 pub mod Laws
-pub mod Decimal

@@ -6,7 +6,8 @@ ghost use mathlib.Core.Path.{_≡_};
 ghost use Prim.Native.Nat.{_+_, _≤_, _<_};
 ghost use mathlib.Core.List.{_++_};
 ghost use lib.ListN.{length, getD, drop};
-ghost use Rattle.tables_header.specs.Header.{magic-line, magic-bytes, decimal, header, header-bytes, table-bytes, begins, fits};
+ghost use Rattle.byte_slices.specs.Decimal.{decimal};
+ghost use Rattle.tables_header.specs.Header.{magic-line, magic-bytes, header, header-bytes, table-bytes, begins, fits};
 ghost use Rattle.limits.specs.Limits.{state-limit};
 
 // The first line, `P4` and its end, takes so many bytes.

@@ -1,5 +1,5 @@
 use borrow.Author.Needs.{needs}
-use Rattle.clocks_states.specs.Laws.{counted, count-is}
+use Rattle.clocks_states.specs.Laws.{countable, counted, count-is}
 use Rattle.clocks_read.proofs.Paths.{load-formed, measured-refused, measured-accepted}
 use Rattle.clocks_read.proofs.measure.Statement.{statement}
 use Rattle.clocks_read.proofs.measure.Tie as tie
@@ -8,16 +8,17 @@ ranges-of-requires : tie.Need-ranges-of-requires
 ranges-of-requires c κs =
     let start = c .before .before .before .before .before in
     let parse-call = c .before .before .before .parse in
-    load-formed (start .args .period) (start .args .text .now) (parse-call .result) (parse-call .ensures)
-    (c .before .enum-told2 .given .1)
+    countable _
+    (load-formed (start .args .period) (start .args .text .now) (parse-call .result) (parse-call .ensures)
+    (c .before .enum-told2 .given .1))
 
 state-count-of-requires : tie.Need-state-count-of-requires
 state-count-of-requires c κs =
     let start = c .before .before .before .before .before .before in
     let parse-call = c .before .before .before .before .parse in
     counted _
-    (load-formed (start .args .period) (start .args .text .now) (parse-call .result) (parse-call .ensures)
-    (c .before .before .enum-told2 .given .1)) _ (c .ranges-of .ensures)
+    (countable _ (load-formed (start .args .period) (start .args .text .now) (parse-call .result) (parse-call .ensures)
+    (c .before .before .enum-told2 .given .1))) _ (c .ranges-of .ensures)
 
 returns : tie.Need-returns
 returns c =

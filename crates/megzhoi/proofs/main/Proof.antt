@@ -2,7 +2,7 @@
 use borrow.Author.Needs.{needs}
 use mathlib.Core.Path.{sym}
 use lib.Seq.{length-take-le}
-use Rattle.printed_lines.specs.Put.{laid-front}
+use Rattle.byte_slices.specs.Put.{laid-front}
 use Rattle.megzhoi.proofs.main.Statement.{statement}
 use Rattle.megzhoi.proofs.main.Tie as tie
 

@@ -1,7 +1,7 @@
 -- The line of the implementation check's answer.
 use borrow.Author.Needs.{needs}
 use mathlib.Core.Path.{_∙_}
-use Rattle.printed_lines.specs.Put.{puts-same, puts-laid}
+use Rattle.byte_slices.specs.Put.{puts-same, puts-laid}
 use Rattle.printed.proofs.Laws.{implementation-line, verdict-passed, verdict-refused, short-as}
 use Rattle.printed.proofs.implementation.Statement.{statement}
 use Rattle.printed.proofs.implementation.Tie as tie

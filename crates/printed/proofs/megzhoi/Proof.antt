@@ -3,7 +3,7 @@ use borrow.Author.Needs.{needs}
 use native.Mathlib.Omega.{arith}
 use Rattle.printed.proofs.Fits.{departure-short}
 use mathlib.Core.Path.{_∙_}
-use Rattle.printed_lines.specs.Put.{puts-same, puts-laid}
+use Rattle.byte_slices.specs.Put.{puts-same, puts-laid}
 use Rattle.printed.proofs.Laws.{megzhoi-lines, no-departure, a-departure, search-refused, short-as}
 use Rattle.printed.proofs.megzhoi.Statement.{statement}
 use Rattle.printed.proofs.megzhoi.Tie as tie

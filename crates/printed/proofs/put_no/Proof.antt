@@ -3,7 +3,7 @@ use borrow.Author.Needs.{needs}
 use mathlib.Core.Path.{ap}
 use Rattle.clocks_read.specs.declared.Reading.{Reading}
 use Rattle.printed_lines.specs.Lines.{departure-lines}
-use Rattle.printed_lines.specs.Put.{puts-same}
+use Rattle.byte_slices.specs.Put.{puts-same}
 use Rattle.printed.proofs.put_no.Statement.{statement}
 use Rattle.printed.proofs.put_no.Tie as tie
 

@@ -1,7 +1,7 @@
 -- The line of the widest table's answer, with slices of zeros.
 use borrow.Author.Needs.{needs}
 use mathlib.Core.Path.{_∙_}
-use Rattle.printed_lines.specs.Put.{puts-same}
+use Rattle.byte_slices.specs.Put.{puts-same}
 use Rattle.printed.proofs.Laws.{counted-line, widest-made, widest-refused, short-as}
 use Rattle.printed.proofs.put_yes.Statement.{statement}
 use Rattle.printed.proofs.put_yes.Tie as tie

@@ -1,7 +1,7 @@
 -- The line of the check's answer, with a keep of zeros.
 use borrow.Author.Needs.{needs}
 use mathlib.Core.Path.{_∙_}
-use Rattle.printed_lines.specs.Put.{puts-same, puts-laid}
+use Rattle.byte_slices.specs.Put.{puts-same, puts-laid}
 use Rattle.printed.proofs.Laws.{recheck-line, check-accepted, check-refused, short-as}
 use Rattle.printed.proofs.recheck.Statement.{statement}
 use Rattle.printed.proofs.recheck.Tie as tie

@@ -2,7 +2,7 @@
 use borrow.Author.Needs.{needs}
 use native.Mathlib.Omega.{arith}
 use Rattle.printed.proofs.Laws.{short-as}
-use Rattle.printed_lines.specs.Put.{puts-same, puts-from, puts-laid}
+use Rattle.byte_slices.specs.Put.{puts-same, puts-from, puts-laid}
 use Rattle.printed.proofs.Table.{widest-laid, widest-fits, widest-untouched, widest-line}
 use Rattle.printed.proofs.widest.Statement.{statement}
 use Rattle.printed.proofs.widest.Tie as tie

@@ -1,6 +1,6 @@
 -- The name, the mark, LF.
 use borrow.Author.Needs.{needs}
-use Rattle.printed_lines.specs.Put.{puts-same, puts-then}
+use Rattle.byte_slices.specs.Put.{puts-same, puts-then}
 use Rattle.printed_lines.specs.Lines.{channel-line}
 use Rattle.printed_lines.proofs.put_channel.Statement.{statement}
 use Rattle.printed_lines.proofs.put_channel.Tie as tie

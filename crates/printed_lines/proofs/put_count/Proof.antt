@@ -2,7 +2,7 @@
 use borrow.Author.Needs.{needs}
 use Rattle.printed_lines.specs.Lines.{line, spaced}
 use Rattle.printed_lines.proofs.Laws.{one-number}
-use Rattle.printed_lines.specs.Put.{puts-none, puts-then}
+use Rattle.byte_slices.specs.Put.{puts-none, puts-then}
 use Rattle.printed_lines.proofs.put_count.Statement.{statement}
 use Rattle.printed_lines.proofs.put_count.Tie as tie
 

@@ -3,7 +3,7 @@ use borrow.Author.Needs.{needs}
 use mathlib.Core.Path.{sym, ap}
 use native.Mathlib.Omega.{arith}
 use lib.Seq.{length-take-le}
-use Rattle.printed_lines.specs.Put.{puts-then, puts-same}
+use Rattle.byte_slices.specs.Put.{puts-then, puts-same}
 use Rattle.printed_lines.specs.Lines.{step-lines, departure-lines}
 use Rattle.printed_lines.proofs.Laws.{front-of}
 use Rattle.printed_lines.proofs.put_departure.Statement.{statement}

@@ -1,6 +1,6 @@
 -- The part of the text from the place on, as far as the text goes.
 use borrow.Author.Needs.{needs}
-use Rattle.printed_lines.specs.Put.{puts-same}
+use Rattle.byte_slices.specs.Put.{puts-same}
 use Rattle.printed_lines.proofs.Laws.{part-of}
 use Rattle.printed_lines.proofs.put_name.Statement.{statement}
 use Rattle.printed_lines.proofs.put_name.Tie as tie

@@ -2,7 +2,7 @@
 use borrow.Author.Needs.{needs}
 use native.Mathlib.Omega.{arith}
 use Rattle.printed_lines.specs.Lines.{passed-line, line, spaced}
-use Rattle.printed_lines.specs.Put.{puts-none, puts-then}
+use Rattle.byte_slices.specs.Put.{puts-none, puts-then}
 use Rattle.printed_lines.proofs.put_passed.Statement.{statement}
 use Rattle.printed_lines.proofs.put_passed.Tie as tie
 

@@ -1,7 +1,7 @@
 -- The word and the four numbers, one after another.
 use borrow.Author.Needs.{needs}
 use Rattle.printed_lines.proofs.Laws.{four-numbers}
-use Rattle.printed_lines.specs.Put.{puts-none, puts-then}
+use Rattle.byte_slices.specs.Put.{puts-none, puts-then}
 use Rattle.printed_lines.specs.Lines.{refusal-line, line, spaced}
 use Rattle.printed_lines.proofs.put_refusal.Statement.{statement}
 use Rattle.printed_lines.proofs.put_refusal.Tie as tie

@@ -2,7 +2,7 @@
 use borrow.Author.Needs.{needs}
 use native.Mathlib.Omega.{arith}
 use Rattle.printed_lines.proofs.Laws.{spaced-short}
-use Rattle.printed_lines.specs.Put.{puts-then}
+use Rattle.byte_slices.specs.Put.{puts-then}
 use Rattle.printed_lines.proofs.put_spaced.Statement.{statement}
 use Rattle.printed_lines.proofs.put_spaced.Tie as tie
 

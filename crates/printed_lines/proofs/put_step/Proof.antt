@@ -2,7 +2,7 @@
 use borrow.Author.Needs.{needs}
 use mathlib.Core.Path.{sym, _∙_}
 use native.Mathlib.Omega.{arith}
-use Rattle.printed_lines.specs.Put.{puts-same}
+use Rattle.byte_slices.specs.Put.{puts-same}
 use Rattle.printed_lines.proofs.Laws.{tick-line, other-line, past-tick}
 use Rattle.printed_lines.proofs.put_step.Statement.{statement}
 use Rattle.printed_lines.proofs.put_step.Tie as tie

@@ -5,7 +5,7 @@ use mathlib.Core.Path.{ap}
 use Prim.Native.Nat.{_-_, _≤_}
 use lib.ListN.{length, take}
 use lib.Seq.{take-all}
-use Rattle.printed_lines.specs.Put.{Puts, puts-none, puts-then, puts-same, puts-length}
+use Rattle.byte_slices.specs.Put.{Puts, puts-none, puts-then, puts-same, puts-length}
 use Rattle.printed_lines.specs.Lines.{step-lines}
 use Rattle.printed_lines.proofs.Laws.{step-more}
 use Rattle.printed_lines.proofs.put_steps.Statement.{statement}

@@ -4,8 +4,8 @@ use native.Mathlib.Omega.{arith}
 use mathlib.Core.Path.{_≡_, sym, _∙_, refl}
 use Prim.Native.Nat.{_+_, _≤_, _<_}
 use lib.ListN.{length, getD}
-use Rattle.tables_header.specs.Header.{digit, decimal}
-use Rattle.tables_header.specs.Decimal.{decimal-length}
+use Rattle.byte_slices.specs.Decimal.{digit, decimal}
+use Rattle.byte_slices.specs.DecimalLaws.{decimal-length}
 use Rattle.tables_header.proofs.Laws.{decimal-few, decimal-long, decimal-last, decimal-front}
 use Rattle.tables_header.proofs.digit_at.Statement.{statement}
 use Rattle.tables_header.proofs.digit_at.Tie as tie

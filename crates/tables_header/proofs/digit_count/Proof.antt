@@ -4,8 +4,8 @@ use native.Mathlib.Omega.{arith}
 use mathlib.Core.Path.{_≡_}
 use Prim.Native.Nat.{_+_, _≤_}
 use lib.ListN.{length}
-use Rattle.tables_header.specs.Header.{decimal}
-use Rattle.tables_header.specs.Decimal.{decimal-length, length-one}
+use Rattle.byte_slices.specs.Decimal.{decimal}
+use Rattle.byte_slices.specs.DecimalLaws.{decimal-length, length-one}
 use Rattle.tables_header.proofs.Laws.{decimal-few}
 use Rattle.tables_header.proofs.digit_count.Statement.{statement}
 use Rattle.tables_header.proofs.digit_count.Tie as tie

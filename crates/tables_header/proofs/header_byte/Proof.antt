@@ -4,7 +4,8 @@ use native.Mathlib.Omega.{arith}
 use mathlib.Core.Path.{_≡_, sym, _∙_, ap}
 use Prim.Native.Nat.{ℕ, _+_, _-_}
 use lib.ListN.{length, getD}
-use Rattle.tables_header.specs.Header.{decimal, magic-bytes}
+use Rattle.byte_slices.specs.Decimal.{decimal}
+use Rattle.tables_header.specs.Header.{magic-bytes}
 use Rattle.tables_header.proofs.Laws.{decimal-few, header-size, header-front, header-width, header-space, header-height, header-end}
 use Rattle.tables_header.proofs.header_byte.Statement.{statement}
 use Rattle.tables_header.proofs.header_byte.Tie as tie

@@ -9,7 +9,7 @@ use lib.Dec.{ltb}
 use lib.ListN.{length, take, drop, set, length-append, length-take, length-drop, length-set}
 use lib.Seq.{take-nil, drop-nil, append-snoc, set-append-seam}
 use borrow.Author.Tests.{lt-ltb, le-ltb}
-use Rattle.printed_lines.specs.Laid.{Laid, laid}
+use Rattle.byte_slices.specs.Laid.{Laid, laid}
 
 -- one byte at the place behind those laid; where the slice has no such place it is dropped
 unfoldable pub put-byte : Laid → ℕ → Laid

@@ -1,9 +1,9 @@
 -- A byte is put where the slice has the place.
 use borrow.Author.Needs.{needs}
 use native.Mathlib.Omega.{arith}
-use Rattle.printed_lines.specs.Put.{puts-here, puts-dropped}
-use Rattle.printed_lines.proofs.put_byte.Statement.{statement}
-use Rattle.printed_lines.proofs.put_byte.Tie as tie
+use Rattle.byte_slices.specs.Put.{puts-here, puts-dropped}
+use Rattle.byte_slices.proofs.put_byte.Statement.{statement}
+use Rattle.byte_slices.proofs.put_byte.Tie as tie
 
 returns : tie.Need-returns
 returns c = let args = c .before .args in puts-dropped (args .out .now) (args .at) (args .b) (c .if1 .taken)

@@ -1,17 +1,17 @@
 -- A number's digits: those in front of the last, which are the digits of a tenth of it, then the last.
 use borrow.Author.Needs.{needs}
 use native.Mathlib.Omega.{arith}
-use Rattle.printed_lines.specs.Put.{puts-same, puts-then}
-use Rattle.printed_lines.proofs.Laws.{one-digit, more-digits}
+use Rattle.byte_slices.specs.Put.{puts-same, puts-then}
+use Rattle.byte_slices.proofs.Laws.{one-digit, more-digits}
 use Prim.Native.Nat.{ℕ, _<_}
 use borrow.Fn.Kinds.{In}
 use borrow.Fn.PlainCycle.{Measures, is, falls, and}
-use Rattle.printed_lines.proofs.put_number.Reads as put-number
-use Rattle.printed_lines.proofs.put_number.Kinds as put-number-kinds
-use Rattle.printed_lines.proofs.+put_number.Lts-put_number as put-number-lts
-use Rattle.printed_lines.proofs.put_byte.Reads as put-byte-reads
-use Rattle.printed_lines.proofs.+put_number.{statement}
-use Rattle.printed_lines.proofs.+put_number.Tie.{close}
+use Rattle.byte_slices.proofs.put_number.Reads as put-number
+use Rattle.byte_slices.proofs.put_number.Kinds as put-number-kinds
+use Rattle.byte_slices.proofs.+put_number.Lts-put_number as put-number-lts
+use Rattle.byte_slices.proofs.put_byte.Reads as put-byte-reads
+use Rattle.byte_slices.proofs.+put_number.{statement}
+use Rattle.byte_slices.proofs.+put_number.Tie.{close}
 
 abbrev μ-put-number : Measures 1 put-number-kinds.ps ℕ
 μ-put-number κs a = a .1 .1 .0

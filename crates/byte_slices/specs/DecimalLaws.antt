@@ -7,7 +7,7 @@ use native.Mathlib.Omega.{arith}
 use borrow.Author.Tests.{lt-ltb, le-ltb}
 use lib.ListN.{length, length-append}
 use Rattle.bitmaps.specs.BitLaws.{less}
-use Rattle.tables_header.specs.Header.{digit, digits, decimal}
+use Rattle.byte_slices.specs.Decimal.{digit, digits, decimal}
 
 pub digits-one : (k n : ℕ) → n < 10 → digits (suc k) n ≡ digit n ∷ []
 unfolding digits

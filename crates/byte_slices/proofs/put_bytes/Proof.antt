@@ -6,9 +6,9 @@ use mathlib.Core.Path.{sym}
 use Prim.Native.Nat.{_-_, _≤_}
 use lib.ListN.{length, take}
 use lib.Seq.{take-suc, take-all}
-use Rattle.printed_lines.specs.Put.{Puts, puts-none, puts-then, puts-same, puts-length}
-use Rattle.printed_lines.proofs.put_bytes.Statement.{statement}
-use Rattle.printed_lines.proofs.put_bytes.Tie as tie
+use Rattle.byte_slices.specs.Put.{Puts, puts-none, puts-then, puts-same, puts-length}
+use Rattle.byte_slices.proofs.put_bytes.Statement.{statement}
+use Rattle.byte_slices.proofs.put_bytes.Tie as tie
 
 abbrev Inv-loop : tie.InvT-loop
 Inv-loop out₀ at bytes place₀ i₀ out place i = (i ≤ length bytes) × Puts out₀ at (take i bytes) out place
