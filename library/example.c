@@ -8,7 +8,12 @@
    or NO IMPLEMENTATION with what stands in the way. A refusal is printed as REFUSED with its code, file, p, q and what the
    code means.
 
-   Exit status: 0 for YES, 1 for NO, 2 for a refusal, a file that cannot be read or written, or wrong arguments. */
+       c-example [--tick MILLISECONDS] --join LEFT RIGHT JOINED
+
+   writes the two texts joined to the file JOINED, with constants in ticks, and prints JOINED with the number of bytes.
+
+   Exit status: 0 for YES and for JOINED, 1 for NO, 2 for a refusal, a file that cannot be read or written, or wrong
+   arguments. */
 #include <errno.h>
 #include <stdio.h>
 #include <stdlib.h>
@@ -65,9 +70,9 @@ static void load(const char *path, struct text *text) {
     text->states = code ? 0 : p;
 }
 
-static void save(const char *path, const uint8_t *table, size_t len) {
+static void save(const char *path, const uint8_t *bytes, size_t len) {
     FILE *f = fopen(path, "wb");
-    if (!f || fwrite(table, 1, len, f) != len || fclose(f)) fail(path, "cannot be written");
+    if (!f || fwrite(bytes, 1, len, f) != len || fclose(f)) fail(path, "cannot be written");
 }
 
 static void print_refusal(const char *word, size_t code, size_t file, size_t p, size_t q) {
@@ -119,12 +124,31 @@ static void print_implementation(void) {
     }
 }
 
+/* Joins the two texts; the slice has room for every text. */
+static int join(const char *path) {
+    static uint8_t joined[MEGZHOI_TEXT_LIMIT];
+    size_t file, p, q;
+    size_t code = megzhoi_join(tick_length, left.bytes, left.len, right.bytes, right.len, joined, sizeof joined,
+                               &file, &p, &q);
+    if (code) return refused(code, file, p, q);
+    save(path, joined, p);
+    printf("JOINED %zu\n", p);
+    return YES;
+}
+
 int main(int argc, char **argv) {
     if (argc > 2 && strcmp(argv[1], "--tick") == 0) {
         tick_length = number(argv[2]);
         argc -= 2, argv += 2;
     }
-    if (argc != 3 && argc != 4) fail("usage", "c-example [--tick MILLISECONDS] DRAFT CONTRACT [TABLE]");
+    if (argc == 5 && strcmp(argv[1], "--join") == 0) {
+        load(argv[2], &left);
+        load(argv[3], &right);
+        return join(argv[4]);
+    }
+    if (argc != 3 && argc != 4) {
+        fail("usage", "c-example [--tick MILLISECONDS] DRAFT CONTRACT [TABLE], or --join LEFT RIGHT JOINED");
+    }
     load(argv[1], &left);
     load(argv[2], &right);
     size_t keep_len = megzhoi_keep_bytes(left.states), pairs = megzhoi_queue_entries(left.states, right.states);

@@ -1,4 +1,4 @@
-/* Megzhoi's six operations for C: refinement of timed I/O contracts over whole ticks.
+/* Megzhoi's seven operations for C: refinement of timed I/O contracts over whole ticks.
 
    docs/SPECIFICATION.md has the rules; its part 15 is about what is declared here. The archive is
    target/staticlib/libmegzhoi_c.a (make library). Each function of it is proved to return and to write what
@@ -11,16 +11,18 @@
 
    A call of an operation returns 0 or the code of a refusal, and writes three numbers: *file, *p and *q. On a
    refusal they are the ones of the table below. On success *file is 0, and *p and *q are what the function says.
-   Codes 1 to 16 and 24 leave every slice as it came. From 17 to 21 keep is written, a table and the run are untouched,
-   and back and line are untouched by 17 and free after 21. 22 and 23 come from megzhoi_implementation alone, which is
-   lent no slice. On success, entries past the written part keep their values.
+   Codes 1 to 16 and 24 to 26 leave every slice as it came. From 17 to 21 keep is written, a table and the run are
+   untouched, and back and line are untouched by 17 and free after 21. 22 and 23 come from megzhoi_implementation alone,
+   which is lent no slice, 25 and 26 from megzhoi_join alone. On success, entries past the written part keep their
+   values.
    The archive needs memcpy and memset of the C library and nothing else.
 
    How long the slices are: megzhoi_read gives the number of states of each text, and megzhoi_keep_bytes,
    megzhoi_table_bytes and megzhoi_queue_entries make of these the lengths of keep, of a table, and of back and of
    line. run needs as many entries as the departure has steps, which are at most left states * right states
    (SPECIFICATION 17.3), so megzhoi_queue_entries is enough for it too. That slices of these lengths are never
-   refused as too short is proved (crates/megzhoi_c/specs/Enough.antt).
+   refused as too short is proved (crates/megzhoi_c/specs/Enough.antt). A joined text is a text, so MEGZHOI_TEXT_LIMIT
+   bytes of out are enough for each.
 
    What nothing checks. The caller sees to it that
    - each pointer is valid for its length, and writable where it is not const; an empty slice takes any pointer
@@ -68,7 +70,9 @@ enum {
     MEGZHOI_RUN_TOO_SHORT = 21,      /* (entries needed, 0) */
     MEGZHOI_OUTPUT_BESIDE_TICK = 22, /* (state, channel): the lowest reachable state with a fault, its lowest output */
     MEGZHOI_NEITHER_POSSIBLE = 23,   /* (state, 0): the lowest reachable state with a fault */
-    MEGZHOI_TICK_OUT_OF_RANGE = 24   /* (tick length, 0): judged before all others, nothing is looked at */
+    MEGZHOI_TICK_OUT_OF_RANGE = 24,  /* (tick length, 0): judged before all others, nothing is looked at */
+    MEGZHOI_LIMIT_EXCEEDED = 25,     /* (0, 0): by the joined text, whatever the length of out */
+    MEGZHOI_OUT_TOO_SHORT = 26       /* (bytes needed, 0) */
 };
 
 /* What a code means, in a few words; any number that no call returns is "no such code". */
@@ -99,6 +103,8 @@ static inline const char *megzhoi_code_text(size_t code) {
     case MEGZHOI_OUTPUT_BESIDE_TICK: return "an output is possible beside a tick, in a reachable state";
     case MEGZHOI_NEITHER_POSSIBLE: return "neither a tick nor an output is possible, in a reachable state";
     case MEGZHOI_TICK_OUT_OF_RANGE: return "the tick length is not 1 to 60,000";
+    case MEGZHOI_LIMIT_EXCEEDED: return "the joined text would pass a limit";
+    case MEGZHOI_OUT_TOO_SHORT: return "out is too short for the joined text";
     default: return "no such code";
     }
 }
@@ -191,6 +197,12 @@ size_t megzhoi_check(size_t tick_length, const uint8_t *left, size_t left_len, c
 size_t megzhoi_widest(size_t tick_length, const uint8_t *left, size_t left_len, const uint8_t *right, size_t right_len,
                       uint8_t *keep, size_t keep_len, uint8_t *table, size_t table_len,
                       size_t *file, size_t *p, size_t *q);
+
+/* Joins two texts with equal channels: writes one that a system satisfies exactly if it satisfies both
+   (SPECIFICATION 18). Its constants are ticks, so it is to be read with tick length 1. On success *p is the number of
+   its bytes, at the front of out, and *q is 0. */
+size_t megzhoi_join(size_t tick_length, const uint8_t *left, size_t left_len, const uint8_t *right, size_t right_len,
+                    uint8_t *out, size_t out_len, size_t *file, size_t *p, size_t *q);
 
 /* The lengths of slices for texts of so many states: the least that is not refused with 13, 14 and 15. An accepted
    text has 1 to 4,096 states; each of the three returns 0 where a number of states is another. */

@@ -3,6 +3,7 @@
 
 crates/test_reader has its texts in stdin, written by hand; only its expected output is written here.
 crates/test_clocks and crates/test_implementation get texts on stdin, each after its tick length and a `#`, with a `#` between two cases.
+crates/test_joining gets pairs on stdin: tick length, length of the slice and the two texts, with a `#` after each.
 crates/test_operations gets data/cases, records of a letter, six numbers of three bytes and a word of eight, low first, and bytes:
 - T, the two texts that the calls after it are about: length of the left, its length with spaces after it, the same for the
   right, and twice 0; then the left's bytes and the right's;
@@ -16,6 +17,7 @@ from collections import Counter
 from pathlib import Path
 
 import implementations
+import joins
 import reference as ref
 import tick_lengths
 from texts import (OUT_OF_RANGE, POST, POSTS, SHEET, TICK, beat, bounded, clocked, counts, damaged, faults, guarded, in_milliseconds, late,
@@ -26,8 +28,10 @@ KEEP, ENTRY = 0xA5, 77  # what lent bytes and entries begin as
 WHOLE = 64  # so many items are shown whole
 MOST = dict(keep=520, room=16384, back=131072, line=131072, run=512, data=524288)  # the room that test_operations has
 BUFFER = 131072  # the bytes of stdin that test_reader, test_clocks and test_implementation read
+JOINING = dict(data=262144, slice=40000, entries=131072, run=512)  # the room that test_joining has
 LONG = ref.LIMITS["text"]
-PAIRED = {name: text for name, text in POSTS.items() if name not in ("Loose", "Spare", "Sheet")}  # the posts of SPECIFICATION 16.2 to 16.6
+# the posts of SPECIFICATION 16.2 to 16.6
+PAIRED = {name: text for name, text in POSTS.items() if name not in ("Loose", "Spare", "Sheet", "Joined")}
 
 
 def summed(items):
@@ -462,6 +466,128 @@ def implementation_cases(seed=9, each=4):
     print("test_implementation", len(lines), "texts;", f"{codes[0]} yes, {codes[22]} with 22, {codes[23]} with 23")
 
 
+def joined_again(tick_length, left, right, text):
+    """What test_joining prints of a joined text: its states and safe ones, and how it departs from the two."""
+    t = ref.read(TICK, text)
+    safe = t.safe()
+    line = f"again states {t.count} safe {len(safe)} start {'safe' if t.start in safe else 'not safe'}"
+    if tick_length != TICK or t.start not in safe:
+        return line
+    for side, original in (("left", left), ("right", right)):
+        entries = JOINING["entries"]
+        answer = ref.search(TICK, text, original, bytes(512), entries, entries, [0] * JOINING["run"])[0]
+        assert answer == 0 or answer[0] == 15, (side, answer)  # SPECIFICATION 18.1
+        line += f" {side} refused {' '.join(map(str, answer))}" if answer else f" {side} 0"
+    return line
+
+
+def joining_lines(tick_length, length, left, right):
+    """What test_joining prints: the answer, whether what is not written is as it came, the text, and what it is."""
+    lent = bytes([KEEP]) * length
+    answer, after = ref.join(tick_length, left, right, lent)
+    if len(answer) == 4:
+        assert after == lent
+        return b"refused %d %d %d %d kept\n" % answer
+    text = after[:answer[0]]
+    assert after[len(text):] == lent[len(text):]
+    return b"joined %d kept\n%s%s\n" % (*answer, text, joined_again(tick_length, left, right, text).encode())
+
+
+def joined(tick_length, left, right):
+    """The joined text, or the refusal, with room enough."""
+    answer, after = ref.join(tick_length, left, right, bytes(LONG))
+    return answer if len(answer) == 4 else after[:answer[0]]
+
+
+def stated_of_joining():
+    """What tests/joins.py knows is what the reading gives."""
+    for tick, left, right, text in joins.written():
+        assert joined(tick, left, right) == text, (text, joined(tick, left, right))
+    for left, right, underscores in joins.underscored():
+        text = joined(TICK, left, right)
+        assert b"process " + b"_" * underscores + b"p0 " in text, (underscores, text)
+    for left, right, fits in joins.at_limits():
+        assert (joined(TICK, left, right) != (25, 0, 0, 0)) == fits, (left, right, fits)
+    for left, right, is_met in joins.together():
+        assert ref.safe_states(TICK, joined(TICK, left, right), bytes(512))[0][1] == is_met, (left, right, is_met)
+    for tick, left, right, *in_ticks in joins.at_tick_lengths():
+        assert joined(tick, left, right) == joined(TICK, *in_ticks), (tick, left, right)
+    for *case, answer in joins.refused():
+        assert joined(*case) == answer, (case, answer, joined(*case))
+    for length in (32733, LONG):
+        assert len(joined(TICK, *joins.of_length(length))) == length
+    assert ref.read(TICK, POSTS["Joined"]).count == 40  # SPECIFICATION 18.10
+
+
+def reads_back(tick_length, left, right):
+    """25 comes exactly where reading the joined text finds a limit passed, else it is accepted (SPECIFICATION 18.8)."""
+    try:
+        made = ref.Joined(ref.both(tick_length, left, right))
+    except ref.Refused:
+        return
+    try:
+        found = ref.read(TICK, made.text()).count
+    except ref.Refused as r:
+        found = r.answer[0]
+        assert found in (1, 7, 9), r.answer
+        assert joined(tick_length, left, right) == (25, 0, 0, 0)
+        return
+    assert found == made.states() and joined(tick_length, left, right) == made.text()
+
+
+def random_joins(rng, count):
+    """Random pairs that are joined, with channels named as what is written may be; every third in milliseconds."""
+    names, cases = ["a", "l0", "c0", "p0", "_l0", "_c1", "l2", "__p0"], []
+    while len(cases) < count:
+        channels = [(n, rng.choice("??!!!-")) for n in rng.sample(names, rng.choice((1, 2, 2, 3)))]
+        clocks = rng.choice(((1, 1), (1, 1), (2, 1), (1, 2), (0, 1), (1, 0), (0, 3), (3, 0), (0, 0)))
+        other = [(n, m if m == "?" else rng.choice("!!!-")) for n, m in channels]
+        pair = [random_text(rng, rng.sample(given, len(given)), ["x", "y", "z"][:n], 2 if n < 3 else 1)
+                for given, n in zip((channels, other), clocks)]
+        text = joined(TICK, *pair)
+        if isinstance(text, tuple) or ref.read(TICK, text).count > 400 or len(text) > 2500:
+            continue
+        tick = random_length(rng) if len(cases) % 3 == 2 else TICK
+        cases.append((tick, *(in_milliseconds(rng, side, tick) for side in pair)))
+        assert joined(*cases[-1]) == text
+    return cases
+
+
+def joining_cases(seed=13, count=36):
+    """Joining: pairs with known answers and random ones, with slices that are exact, short, empty and longer."""
+    stated_of_joining()
+    pairs = [*((tick, left, right) for tick, left, right, _ in joins.written()),
+             *((TICK, left, right) for left, right, _ in joins.underscored() + joins.at_limits() + joins.together()),
+             *((tick, left, right) for tick, left, right, _, _ in joins.at_tick_lengths()),
+             *((tick, left, right) for tick, left, right, _ in joins.refused()),
+             *random_joins(random.Random(seed), count)]
+    cases = []
+    for i, pair in enumerate(pairs):
+        reads_back(*pair)
+        text = joined(*pair)
+        need = len(text) if isinstance(text, bytes) else 0
+        cases.append((pair[0], need + (0, 0, 1, 40)[i % 4], *pair[1:]))
+        if need and i % 5 == 0:
+            cases += [(pair[0], length, *pair[1:]) for length in (need - 1, 0)]
+    longest, over = joins.of_length(LONG), joins.of_length(LONG + 1)
+    cases += [(TICK, JOINING["slice"], *longest), (TICK, LONG - 1, *longest)]
+    cases += [(TICK, JOINING["slice"], *over), (TICK, 0, *over)]
+    write_joining(cases)
+
+
+def write_joining(cases):
+    data = b"".join(b"%d#%d#%s#%s#" % case for case in cases)
+    assert len(data) <= JOINING["data"] and all(b"#" not in left + right for _, _, left, right in cases)
+    assert all(length <= JOINING["slice"] for _, length, _, _ in cases)
+    lines = [joining_lines(*case) for case in cases]
+    (CRATES / "test_joining" / "stdin").write_bytes(data)
+    (CRATES / "test_joining" / "stdout").write_bytes(b"".join(lines))
+    codes = Counter(int(line.split()[1]) if line.startswith(b"refused") else 0 for line in lines)
+    assert set(codes) == {0, *range(1, 13), 24, 25, 26}
+    print("test_joining", len(cases), "pairs,", len(data), "bytes;",
+          f"{codes[0]} joined, {codes[25]} with 25, {codes[26]} with 26")
+
+
 def record_lines(tick_length, text):
     """What test_reader prints of a text: the refusal, or the counts, the init location and every item of the record."""
     file = 0  # of 24; of all others it is 1 (SPECIFICATION 13.2)
@@ -577,4 +703,5 @@ if __name__ == "__main__":
     records()
     readings()
     implementation_cases()
+    joining_cases()
     operations()

@@ -1,10 +1,12 @@
 #!/usr/bin/env python3
 """programs: run the built programs on pairs of files and compare the whole of what they print with tests/reference.py.
 
-`megzhoi` and `widest` read left.xta and right.xta, `recheck` table.pbm too, and `implementation` left.xta alone; each pair gets all
-four, `recheck` with the table that `widest` must have made, with damaged ones and with none. The pairs are the examples, texts with
-one fault each, texts at each limit (SPECIFICATION 4.3), texts with strict signs, files that are missing, too long or no files, and
-random texts (seeded). The programs read with tick length 1 (SPECIFICATION 14.1, 14.5, 14.7).
+`megzhoi`, `widest` and `join` read left.xta and right.xta, `recheck` table.pbm too, and `implementation` left.xta
+alone; each pair gets all five, `recheck` with the table that `widest` must have made, with damaged ones and with none.
+The pairs are the examples, texts with one fault each, texts at each limit (SPECIFICATION 4.3), texts with strict signs,
+files that are missing, too long or no files, and random texts (seeded). `join` also gets pairs whose joined text is at
+a limit or has names that need underscores (tests/joins.py). The programs read with tick length 1 (SPECIFICATION 14.1,
+14.5, 14.7, 14.8).
 `implementation` is also run with no file but left.xta, on texts with a known answer (tests/implementations.py).
 Run it at the repository's root, with the programs in target/bin; the exit status is 0 when nothing differs.
 """
@@ -16,6 +18,7 @@ import tempfile
 from collections import Counter
 
 import implementations
+import joins
 import reference as ref
 from texts import (POST, POSTS, TICK, beat, clocked, counts, faults, is_small, late, long_edges, random_pair, rows, swapped, telling_pairs, wide)
 
@@ -130,6 +133,7 @@ class Runner:
     def __init__(self, folder, bin_folder):
         self.folder, self.bin, self.runs, self.differences = folder, bin_folder, 0, 0
         self.answers, self.alone = Counter(), Counter()  # of `megzhoi`; of `implementation`, by code
+        self.joined = Counter()  # of `join`, by code
 
     def put(self, name, content):
         """The file, no file (None), or a folder of that name; what a program can read of it."""
@@ -157,9 +161,15 @@ class Runner:
         self.alone[" ".join(answer.decode().split()[:2])] += 1
         self.compare("implementation", answer, label)
 
+    def join(self, left, right, label):
+        answer = ref.join_program(left, right)
+        self.joined[" ".join(answer.decode().split()[:2]) if answer.startswith(b"REFUSED") else "joined"] += 1
+        self.compare("join", answer, label)
+
     def pair(self, left, right, label, rng):
         left, right = self.put("left.xta", left), self.put("right.xta", right)
         self.one(left, label)
+        self.join(left, right, label)
         answer = ref.program(left, right)
         self.answers[answer.split()[0].decode()] += 1
         self.compare("megzhoi", answer, label)
@@ -195,6 +205,13 @@ def known_answers(runner):
         runner.one(runner.put("left.xta", text), f"known {i}")
 
 
+def pairs_to_join(runner):
+    """Pairs with known answers, in a folder that has no table."""
+    pairs = [pair[:2] for pair in joins.underscored() + joins.at_limits() + joins.together()]
+    for i, (left, right) in enumerate(pairs):
+        runner.join(runner.put("left.xta", left), runner.put("right.xta", right), f"to join {i}")
+
+
 def main():
     rng, total = random.Random(11), 0
     with tempfile.TemporaryDirectory() as folder:
@@ -205,8 +222,11 @@ def main():
                 runner.pair(left, right, f"{kind} {i}", rng)
         largest_table(runner)
         known_answers(runner)
-    kinds, alone = (", ".join(f"{n} {kind}" for kind, n in sorted(found.items())) for found in (runner.answers, runner.alone))
+        pairs_to_join(runner)
+    counted = (runner.answers, runner.alone, runner.joined)
+    kinds, alone, joined = (", ".join(f"{n} {kind}" for kind, n in sorted(found.items())) for found in counted)
     print(f"left files alone: {alone}")
+    print(f"pairs to join: {joined}")
     print(f"{total} pairs of files ({kinds}), {runner.runs} runs of the programs, {runner.differences} differences")
     return 1 if runner.differences else 0
 

@@ -1,12 +1,14 @@
 //! The tables by size: every operation on texts that grow, the library beside plain Rust and, where it is given, beside
 //! an older build.
 
-use crate::contenders::{contenders, with_implementation, Calls, Contender, PLAIN};
-use crate::operations::{check, implementation, reached, read, safe_states, search, states, widest, Operation, Texts};
+use crate::contenders::{contenders, with_implementation, with_join, Calls, Contender, PLAIN};
+use crate::operations::{check, implementation, join, reached, read, safe_states, search, states, widest};
+use crate::operations::{Operation, Texts};
 use boundary::{ByPairs, Returned};
-use plain::codes::OUTPUT_BESIDE_TICK;
+use plain::codes::{LIMIT_EXCEEDED, OUTPUT_BESIDE_TICK};
 use std::rc::Rc;
-use texts::{chain, drifting, full_of_edges, full_of_tokens, passive, post, relay, scaled_post, Kind, Reach};
+use texts::{at_single_values, chain, drifting, early, full_of_edges, full_of_tokens, of_joined_length, passive};
+use texts::{post, relay, scaled_post, Kind, Reach};
 
 pub struct Table {
     pub title: &'static str,
@@ -48,7 +50,7 @@ pub fn tables() -> Vec<Table> {
         Table { title, unit, contenders, groups, operation, units }
     };
     let refining = || [drifting_groups(&[Kind::Refining]), vec![posts()]].into_iter().flatten().collect();
-    let judging = with_implementation(&contenders);
+    let (judging, joining) = (with_implementation(&contenders), with_join(&contenders));
     let of_left: fn(&Texts, Returned) -> usize = |(left, _), _| states(left);
     let all = [drifting_groups(&KINDS), vec![posts(), chains()]].into_iter().flatten().collect();
     vec![
@@ -58,6 +60,7 @@ pub fn tables() -> Vec<Table> {
         table("Safe states", "state", of_the_left(refining()), safe_states, of_left),
         Table { contenders: judging, ..table("Implementation", "state", implementations(), implementation, of_left) },
         table("Reading", "byte", reading(), read, |(text, _), _| text.len()),
+        Table { contenders: joining, ..table("Joining", "byte", joined(), join, read_and_written) },
     ]
 }
 
@@ -141,4 +144,25 @@ fn reading() -> Vec<Vec<Case>> {
         ("as many tokens as possible, 32,768 bytes", full_of_tokens),
     ];
     texts.into_iter().map(|(name, text)| vec![case(name.to_string(), move || (text(), Vec::new()))]).collect()
+}
+
+/// Bytes of the two texts and of the joined one.
+fn read_and_written((left, right): &Texts, returned: Returned) -> usize {
+    left.len() + right.len() + returned.p
+}
+
+/// Small pairs and large ones: much to read, much to write, and as many pairs of edges as there can be.
+fn joined() -> Vec<Vec<Case>> {
+    let texts: [(&str, fn() -> Texts); 6] = [
+        ("Post and Early", || (post(), early())),
+        ("larger post of 100 states and Post", || (scaled_post(10), post())),
+        ("121 joined edges at single values", || (at_single_values(11), at_single_values(11))),
+        ("32 locations, 128 edges, 32,768 bytes written", || of_joined_length(plain::TEXT_LIMIT)),
+        ("as many tokens as possible, 65,536 bytes read", || (full_of_tokens(), full_of_tokens())),
+        ("128 × 128 edges, which are too many", || (at_single_values(128), at_single_values(128))),
+    ];
+    let one = |(name, texts): (&str, fn() -> Texts)| case(name.to_string(), texts);
+    let mut groups: Vec<Vec<Case>> = texts.into_iter().map(|given| vec![one(given)]).collect();
+    groups.iter_mut().flatten().last().expect("a case").code = LIMIT_EXCEEDED;
+    groups
 }

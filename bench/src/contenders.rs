@@ -22,10 +22,19 @@ pub fn contenders(others: &[(&'static str, Rc<dyn Operations>)]) -> Vec<Contende
     before.into_iter().chain([after]).chain(others).collect()
 }
 
-/// Those that have the implementation check: an older build may lack it.
+/// Those that have an operation, by what a call of it gives: an older build may lack it.
+fn having(contenders: &[Contender], call: impl Fn(&dyn Operations) -> Option<Returned>) -> Vec<Contender> {
+    contenders.iter().filter(|contender| call(&*contender.operations).is_some()).cloned().collect()
+}
+
+/// Those that have the implementation check.
 pub fn with_implementation(contenders: &[Contender]) -> Vec<Contender> {
-    let has = |contender: &&Contender| contender.operations.implementation(TICK, &[]).is_some();
-    contenders.iter().filter(has).cloned().collect()
+    having(contenders, |operations| operations.implementation(TICK, &[]))
+}
+
+/// Those that join texts.
+pub fn with_join(contenders: &[Contender]) -> Vec<Contender> {
+    having(contenders, |operations| operations.join(TICK, &[], &[], &mut []))
 }
 
 /// Where the contender of a name stands, if it is there.

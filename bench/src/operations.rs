@@ -1,4 +1,4 @@
-//! The six operations as they are timed: what the contenders return and write is compared first.
+//! The seven operations as they are timed: what the contenders return and write is compared first.
 
 use crate::contenders::{calls, compare, Calls, Contender};
 use boundary::{ByRows, Operations, Returned, ONLY_TICK};
@@ -128,6 +128,24 @@ pub fn check(contenders: &[Contender], texts: Rc<Texts>) -> (Returned, Calls) {
         let (texts, table) = (texts.clone(), table.clone());
         Box::new(move || {
             black_box(operations.check(TICK, &texts.0, &texts.1, &mut [0; KEEP], &table));
+        })
+    });
+    (returned, calls)
+}
+
+/// The contenders have the operation; the slice has room for every joined text.
+pub fn join(contenders: &[Contender], texts: Rc<Texts>) -> (Returned, Calls) {
+    let write = |operations: &dyn Operations, (left, right): &Texts, out: &mut [u8]| {
+        operations.join(TICK, left, right, out).expect("the operation")
+    };
+    let returned = compare(contenders, |operations| {
+        let mut out = vec![0; plain::TEXT_LIMIT];
+        (write(operations, &texts, &mut out), out)
+    });
+    let calls = calls(contenders, |operations| {
+        let (texts, mut out) = (texts.clone(), vec![0; plain::TEXT_LIMIT]);
+        Box::new(move || {
+            black_box(write(&*operations, &texts, &mut out));
         })
     });
     (returned, calls)

@@ -7,7 +7,7 @@ use Prim.Native.Nat.{ℕ, _+_, _<_, _≤_, min}
 use native.Mathlib.Omega.{arith}
 use lib.Dec.{ltb}
 use lib.ListN.{length, take, drop, set, length-append, length-take, length-drop, length-set}
-use lib.Seq.{take-nil, drop-nil, append-snoc, set-append-seam}
+use lib.Seq.{take-nil, take-all, take-at, drop-nil, append-snoc, set-append-seam}
 use borrow.Author.Tests.{lt-ltb, le-ltb}
 use Rattle.byte_slices.specs.Laid.{Laid, laid}
 
@@ -134,3 +134,13 @@ laid-front {after} {n} out bytes e =
     let parts = length-take (length out) bytes in
     let rest = length-drop (length bytes) out in
     (omega (arith, count, size, same, parts, rest), omega (arith, size, same, parts, rest))
+
+-- bytes at the front of a slice are laid over it: those at the front of another one that they stand in front of
+pub front-laid :
+    (t u file : List ℕ) (bytes : ℕ) → length file ≡ bytes → bytes ≤ length t
+    → _≡_ {A = Laid} (record { slice = file ++ drop bytes t; count = bytes }) (laid t (take bytes (file ++ drop
+    bytes u)))
+unfolding laid
+front-laid t u file bytes l m =
+    rw (take-at file (drop bytes u) bytes l, take-all (length t) file (omega arith), l)
+    (ap (λ (n : ℕ). record { slice = file ++ drop bytes t; count = n }) (omega arith))

@@ -10,7 +10,7 @@ use lib.ListN.{length, drop}
 use Rattle.limits.specs.Limits.{largest-text, tick-allowed, Tick-length}
 use Rattle.limits.specs.Laws.{allowed-length, length-allowed}
 use Rattle.refusals.specs.declared.Refusal.{Refusal}
-use Rattle.refusals.specs.Refusals.{in-file, left-file, right-file, text-too-long, unmatched-channel, keep-too-short, table-too-short, queue-too-short, other-table, start-not-safe, start-pair-not-set, pair-not-allowed, rule-broken, run-too-short, output-beside-tick, neither-possible, tick-out-of-range}
+use Rattle.refusals.specs.Refusals.{in-file, left-file, right-file, text-too-long, unmatched-channel, keep-too-short, table-too-short, queue-too-short, other-table, start-not-safe, start-pair-not-set, pair-not-allowed, rule-broken, run-too-short, output-beside-tick, neither-possible, tick-out-of-range, limit-exceeded, out-too-short}
 use Rattle.refusals.specs.declared.Verdict.{Verdict}
 use Rattle.refusals.specs.declared.Verdict.the-variants as verdict
 use Rattle.systems.specs.Bools.{none-some}
@@ -31,7 +31,6 @@ use Rattle.clocks_read.specs.declared.Reading.{Reading}
 use Rattle.clocks_read.specs.Reading as reading
 use Rattle.clocks_read.specs.Reading.{parsed-reading, read-outcome}
 use Rattle.pairing.specs.declared.Matched.{Matched}
-use Rattle.pairing.specs.declared.Matched.the-variants.{Equal, Unmatched}
 use Rattle.pairing.specs.Channels as channels
 use Rattle.two_texts.specs.Two.{text-of, tick-judged, too-long-in, refused-in, refused-pairing, or-else, texts-judged, channels-judged, two-judged, left-system, right-system, judged-by}
 use Rattle.two_texts.specs.Laws.{compared, judged-by-some}
@@ -43,13 +42,15 @@ use Rattle.implementation_check.specs.Outcome as checking
 use Rattle.implementation_check.specs.Outcome.{found-answer, text-finding, implementation-outcome}
 use Rattle.search.specs.Outcome as search
 use Rattle.search.specs.Outcome.{search-systems}
-use Rattle.tables.specs.Outcome.{Checked, check-refused, scanned, check-systems, Widened, widest-refused, widest-systems}
+use Rattle.tables.specs.Outcome.{Checked, scanned, check-systems, Widened, widest-systems}
 use Rattle.tables_rows.specs.Raster.{set-at}
 use Rattle.tables_check.specs.declared.Found.{Found}
 use Rattle.tables_check.specs.declared.Found.the-variants.{Passed, NotAllowedAt, BrokenAt}
 use Rattle.two_operations.specs.Outcome.{search-outcome, check-outcome, widest-outcome}
+use Rattle.joining.specs.Outcome as joining
+use Rattle.joining.specs.Outcome.{within-limits, laid-text, record-outcome, joined-record, joined-bytes, join-outcome}
 use Rattle.demands.specs.Words.{Without, search-refusal, check-refusal, widest-refusal}
-use Rattle.guarantees.specs.Texts.{safe-refusal}
+use Rattle.guarantees.specs.Texts.{safe-refusal, join-refusal}
 use Rattle.guarantees.specs.Setting.{tick-is-allowed}
 use Rattle.guarantees.specs.Lengths.{Ticks-demand, Length-refused, Length-passed, Length-demand}
 
@@ -75,7 +76,7 @@ module _ (period : ℕ) (not-allowed : tick-allowed period ≡ false) where
 
   length-refused : Length-refused period
   unfolding safe-outcome safe.answered implementation-outcome checking.answered reading.refused search-outcome check-outcome
-      widest-outcome
+      widest-outcome join-outcome joining.refused
   length-refused = record {
     read = read-refused;
     safe-states = λ s keep. ap (λ (r : Reading). safe.answered (r .answer) (r .text) keep) (read-refused s);
@@ -84,6 +85,7 @@ module _ (period : ℕ) (not-allowed : tick-allowed period ≡ false) where
         (two-refused left right);
     check = λ left right keep table. judged-by-some (two-judged period left right) _ _ _ (two-refused left right);
     widest = λ left right keep table. judged-by-some (two-judged period left right) _ _ _ (two-refused left right);
+    join = λ left right out. judged-by-some (two-judged period left right) _ _ _ (two-refused left right);
   }
 
 -- the last code before 24, of those that the operations give later
@@ -282,6 +284,33 @@ module _ (period : ℕ) (allowed : tick-allowed period ≡ true) where
         (λ e. widened-earlier (left-system period (compared period left right e))
         (right-system period (compared period left right e)) keep table)
 
+  -- 25 and 26 are none of these, but not 24 either
+  other-code : (f : Refusal) → (f .code ≡ tick-out-of-range 0 .code → ⊥) → Without tick-out-of-range (some f)
+  other-code f h p e =
+      let z : f ≡ tick-out-of-range p = cc in
+      h (ap (λ (x : Refusal). x .code) z)
+
+  record-passed : (t : Text) (z out : List ℕ)
+      → Without tick-out-of-range (join-refusal (record-outcome t z out .answer))
+  unfolding record-outcome laid-text joining.refused join-refusal
+  record-passed t z out =
+      either P (within-limits t z)
+      (either P (ltb (length out) (length z)) (other-code (out-too-short (length z)) (λ e. omega arith))
+      (without-tick none earlier-none))
+      (other-code limit-exceeded (λ e. omega arith))
+    where
+      P : joining.Outcome → Type 0
+      P o = Without tick-out-of-range (join-refusal (o .answer))
+
+  join-passed : (left right out : List ℕ)
+      → Without tick-out-of-range (join-refusal (join-outcome period left right out .answer))
+  unfolding join-outcome join-refusal joining.refused
+  join-passed left right out =
+      by-judged (λ (o : joining.Outcome). Without tick-out-of-range (join-refusal (o .answer)))
+      (two-judged period left right) _ _ (judged-earlier left right)
+      (λ f h. without-tick (some f) (earlier-some f h))
+      (λ e. record-passed (joined-record period left right) (joined-bytes period left right) out)
+
   length-passed : Length-passed period
   unfolding refusal-in
   length-passed = record {
@@ -292,7 +321,22 @@ module _ (period : ℕ) (allowed : tick-allowed period ≡ true) where
     search = λ left right keep back line run. without-tick _ (search-passed left right keep back line run);
     check = λ left right keep table. without-tick _ (check-passed left right keep table);
     widest = λ left right keep table. without-tick _ (widest-passed left right keep table);
+    join = join-passed;
   }
+
+-- codes 24 and 1 to 12 of two texts are 24 or lower
+pub two-codes : (period : ℕ) (left right : List ℕ) (r : Refusal) → two-judged period left right ≡ some r
+    → r .code ≤ tick-out-of-range period .code
+unfolding Earlier
+two-codes period left right r e = go (tick-allowed period) refl
+  where
+    go : (b : Bool) → tick-allowed period ≡ b → r .code ≤ tick-out-of-range period .code
+    go true h = omega (arith, judged-earlier period h left right r e)
+    go false h =
+        let z : some (tick-out-of-range period) ≡ some r = sym (two-refused period h left right) ∙ e in
+        let q : tick-out-of-range period ≡ r = cc in
+        let k : tick-out-of-range period .code ≡ r .code = ap (λ (x : Refusal). x .code) q in
+        omega (arith, k)
 
 pub length-promised : (period : ℕ) → Length-demand period
 length-promised period = record {

@@ -1,9 +1,9 @@
 -- THE GUARANTEES, to be read first. The demands (SPECIFICATION 17.1 to 17.3) as theorems about the operations' own
--- outcomes (safe-outcome, search-outcome, check-outcome, widest-outcome, implementation-outcome), which the contracts
--- of the operations equate with what the code answers and leaves in the lent slices. The words are defined in
+-- outcomes (safe-outcome, search-outcome, check-outcome, widest-outcome, implementation-outcome, join-outcome), which
+-- the contracts of the operations equate with what the code answers and leaves in the lent slices. The words are defined in
 -- Texts.antt and, for systems, in crate systems, Definitions.antt, in crate reachable, Meaning.antt, and in crate
 -- demands, Words.antt; what each demand asks, clause by clause, is a record or a type of cases in crate demands,
--- Demands.antt and Answers.antt, and in Demands.antt, Implementations.antt and Lengths.antt here. The other files of
+-- Demands.antt and Answers.antt, and in Demands.antt, Implementations.antt, Lengths.antt and Joining.antt here. The other files of
 -- this crate are laws: the operations on two texts are instances of those on two systems.
 use mathlib.Core.Path.{_≡_, subst}
 use mathlib.Core.Logic.{_↔_}
@@ -20,6 +20,9 @@ use Rattle.implementation_check.specs.Outcome.{implementation-outcome}
 use Rattle.search.specs.declared.SearchAnswer.the-variants as search-answer
 use Rattle.search.specs.Outcome as search
 use Rattle.two_operations.specs.Outcome.{search-outcome, check-outcome, widest-outcome}
+use Rattle.joining.specs.declared.JoinAnswer.the-variants as joined
+use Rattle.joining.specs.Outcome as joining
+use Rattle.joining.specs.Outcome.{join-outcome}
 use Rattle.tables.specs.declared.CheckAnswer.the-variants as checked
 use Rattle.tables.specs.declared.WidestAnswer.the-variants as made
 use Rattle.tables.specs.Outcome.{Checked, Widened}
@@ -35,6 +38,8 @@ use Rattle.guarantees.specs.Implementations.{Implementation-demand}
 use Rattle.guarantees.specs.Implemented.{implementation-promised}
 use Rattle.guarantees.specs.Lengths.{Ticks-demand, Length-demand}
 use Rattle.guarantees.specs.Allowed.{ticks-promised, length-promised}
+use Rattle.guarantees.specs.Joining.{Join-demand}
+use Rattle.guarantees.specs.Joins.{join-promised}
 use Rattle.guarantees.specs.Counted as counted
 use Rattle.guarantees.specs.Setting.{nothing-found, one-capping, left-capping, right-capping, by-texts, form-sizes, search-is, check-is, widest-is}
 
@@ -72,6 +77,12 @@ module _ (period : ℕ) where
   pub implementation-exactly : (s : List ℕ) → Implementation-demand period s (implementation-outcome period s)
   implementation-exactly = implementation-promised period
 
+  -- Joining, for every two texts and every slice: when 25 and 26 come, and that the joined text is accepted with tick
+  -- length 1 and satisfied by exactly the implementations that satisfy both texts (SPECIFICATION 17.10).
+  pub joining-exactly : (left right out : List ℕ)
+      → Join-demand period left right out (join-outcome period left right out)
+  joining-exactly = join-promised period
+
   -- DEMAND 1 (SPECIFICATION 17.1). An operation on two texts gives one of the codes 24 and 1 to 12 exactly unless both
   -- texts are accepted and have equal channels; then everything lent is as it came.
   pub texts-judged : (left right : List ℕ) → (none ≡ two-judged period left right)
@@ -97,6 +108,11 @@ module _ (period : ℕ) where
       → widest-outcome period left right keep table ≡ record { answer = made.Refused r; keep = keep; table = table }
   unfolding widest-outcome
   widest-judged left right keep table r e = judged-by-some (two-judged period left right) _ _ r e
+
+  pub join-judged : (left right out : List ℕ) (r : Refusal) → two-judged period left right ≡ some r
+      → join-outcome period left right out ≡ record { answer = joined.Refused r; out = out }
+  unfolding join-outcome joining.refused
+  join-judged left right out r e = judged-by-some (two-judged period left right) _ _ r e
 
   module _ (left right : List ℕ) (a : Accepted-text period left) (b : Accepted-text period right)
       (e : Equal-channels period left right) where

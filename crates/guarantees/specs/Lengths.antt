@@ -17,8 +17,10 @@ use Rattle.search.specs.declared.SearchAnswer.the-variants as search-answer
 use Rattle.tables.specs.declared.CheckAnswer.the-variants as checked
 use Rattle.tables.specs.declared.WidestAnswer.the-variants as made
 use Rattle.two_operations.specs.Outcome.{search-outcome, check-outcome, widest-outcome}
+use Rattle.joining.specs.declared.JoinAnswer.the-variants as joined
+use Rattle.joining.specs.Outcome.{join-outcome}
 use Rattle.demands.specs.Words.{Without, search-refusal, check-refusal, widest-refusal}
-use Rattle.guarantees.specs.Texts.{Accepted-text, safe-refusal}
+use Rattle.guarantees.specs.Texts.{Accepted-text, safe-refusal, join-refusal}
 
 -- q is c / period to the nearest whole number, an exact half upward: q ticks are at most half a tick more than c, and c
 -- is less than half a tick more than q ticks
@@ -47,6 +49,9 @@ pub record Length-refused (period : ℕ) : Type 0 where
   pub widest : (left right keep table : List ℕ)
       → widest-outcome period left right keep table
       ≡ record { answer = made.Refused (tick-out-of-range period); keep = keep; table = table }
+  pub join : (left right out : List ℕ)
+      → join-outcome period left right out
+      ≡ record { answer = joined.Refused (tick-out-of-range period); out = out }
 
 -- an allowed one: no operation gives 24
 pub record Length-passed (period : ℕ) : Type 0 where
@@ -59,6 +64,8 @@ pub record Length-passed (period : ℕ) : Type 0 where
       → Without tick-out-of-range (check-refusal (check-outcome period left right keep table .answer))
   pub widest : (left right keep table : List ℕ)
       → Without tick-out-of-range (widest-refusal (widest-outcome period left right keep table .answer))
+  pub join : (left right out : List ℕ)
+      → Without tick-out-of-range (join-refusal (join-outcome period left right out .answer))
 
 -- both, and that a text is accepted only at an allowed one
 pub record Length-demand (period : ℕ) : Type 0 where

@@ -9,3 +9,5 @@ pub mod Implementations
 pub mod Implemented
 pub mod Lengths
 pub mod Allowed
+pub mod Joining
+pub mod Joins

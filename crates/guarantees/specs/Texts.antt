@@ -16,11 +16,18 @@ use Rattle.pairing.specs.Channels as channels
 use Rattle.two_texts.specs.Two.{text-of, step-of}
 use Rattle.safe_states.specs.declared.SafeAnswer.{SafeAnswer}
 use Rattle.safe_states.specs.declared.SafeAnswer.the-variants.{Found, Refused}
+use Rattle.joining.specs.declared.JoinAnswer.{JoinAnswer}
+use Rattle.joining.specs.declared.JoinAnswer.the-variants as joined
 
 -- the refusal of the safe-state operation's answer, if it is one
 unfoldable pub safe-refusal : SafeAnswer → Option Refusal
 safe-refusal (Found n b) = none
 safe-refusal (Refused r) = some r
+
+-- that of the joining's answer
+unfoldable pub join-refusal : JoinAnswer → Option Refusal
+join-refusal (joined.Written n) = none
+join-refusal (joined.Refused r) = some r
 
 -- at one tick length, `period` (SPECIFICATION 4.7)
 module _ (period : ℕ) where

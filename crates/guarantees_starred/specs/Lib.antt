@@ -8,3 +8,4 @@ pub mod Safe
 pub mod Starred
 pub mod Met
 pub mod Implementations
+pub mod Joined

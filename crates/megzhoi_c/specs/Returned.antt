@@ -19,6 +19,8 @@ use Rattle.tables.specs.declared.CheckAnswer.{CheckAnswer}
 use Rattle.tables.specs.declared.CheckAnswer.the-variants as check
 use Rattle.tables.specs.declared.WidestAnswer.{WidestAnswer}
 use Rattle.tables.specs.declared.WidestAnswer.the-variants as made
+use Rattle.joining.specs.declared.JoinAnswer.{JoinAnswer}
+use Rattle.joining.specs.declared.JoinAnswer.the-variants as join
 
 -- the four numbers of a call
 abbrev pub four : ℕ → ℕ → ℕ → ℕ → Returned
@@ -65,6 +67,11 @@ of-check (check.Refused f) = refused f
 unfoldable pub of-widest : WidestAnswer → Returned
 of-widest (made.Made count start) = success count (as-number start)
 of-widest (made.Refused f) = refused f
+
+-- the joining: the length of the text
+unfoldable pub of-join : JoinAnswer → Returned
+of-join (join.Written n) = success n 0
+of-join (join.Refused f) = refused f
 
 -- the code that a call returns is not that of this refusal, whatever number it carries
 abbrev pub Returns-no : (ℕ → Refusal) → Returned → Type 0

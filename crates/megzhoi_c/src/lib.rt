@@ -1,7 +1,8 @@
-// The six operations for callers in C and Rust (SPECIFICATION 15). A slice is a pointer and a length in entries. The
+// The seven operations for callers in C and Rust (SPECIFICATION 15). A slice is a pointer and a length in entries. The
 // answer is four numbers: the code, 0 for success, is returned, and the file mark, p and q are written. Three more
 // functions say how long the slices are that a caller lends. `period` is the tick length in milliseconds, a whole
 // machine word of which every value is answered (SPECIFICATION 4.7, 15.1).
+use joining::JoinAnswer;
 use limits::STATE_LIMIT;
 use reader_record::Text;
 use refusals::NO_FILE;
@@ -16,10 +17,11 @@ ghost use lib.ListN.{length};
 ghost use Rattle.clocks_read.specs.Reading.{read-outcome};
 ghost use Rattle.safe_states.specs.Outcome.{safe-outcome};
 ghost use Rattle.implementation_check.specs.Outcome.{implementation-outcome};
+ghost use Rattle.joining.specs.Outcome.{join-outcome};
 ghost use Rattle.search.specs.Outcome.{Scratch};
 ghost use Rattle.two_operations.specs.Outcome.{search-outcome, check-outcome, widest-outcome};
 ghost use Rattle.megzhoi_c.specs.Returned.{four, success, refused, as-number, recorded};
-ghost use Rattle.megzhoi_c.specs.Returned.{of-verdict, of-safe, of-search, of-check, of-widest};
+ghost use Rattle.megzhoi_c.specs.Returned.{of-verdict, of-safe, of-search, of-check, of-widest, of-join};
 ghost use mathlib.Core.Bool.{_&&_};
 ghost use Rattle.megzhoi_c.specs.Sizes.{possible, keep-needed, table-needed, queue-needed};
 
@@ -116,6 +118,15 @@ fn widest_returned(a: WidestAnswer) -> Returned
             succeeded(count, q)
         }
         WidestAnswer::Refused(f) => refused(f),
+    }
+}
+
+fn join_returned(a: JoinAnswer) -> Returned
+    ensures { λ r. ⌜ r ≡ of-join a ⌝ }
+{
+    match a {
+        JoinAnswer::Written(n) => succeeded(n, 0),
+        JoinAnswer::Refused(f) => refused(f),
     }
 }
 
@@ -280,6 +291,27 @@ pub extern "C" fn megzhoi_widest(
 {
     let answer = operations::widest(period, left, right, keep, table);
     let f = widest_returned(answer);
+    hand_out(f, file, p, q)
+}
+
+// Writes the joined text into out: p is its length.
+#[no_mangle]
+pub extern "C" fn megzhoi_join(
+    period: usize,
+    left: &[u8],
+    right: &[u8],
+    out: &mut [u8],
+    file: &mut usize,
+    p: &mut usize,
+    q: &mut usize,
+) -> usize
+    ensures { λ r. ⌜ four r (now (file .exit)) (now (p .exit)) (now (q .exit)) ≡
+        of-join (join-outcome period (now (left .entry)) (now (right .entry)) (now (out .entry)) .answer) ⌝ }
+    ensures { λ _. ⌜ now (out .exit) ≡
+        join-outcome period (now (left .entry)) (now (right .entry)) (now (out .entry)) .out ⌝ }
+{
+    let answer = operations::join(period, left, right, out);
+    let f = join_returned(answer);
     hand_out(f, file, p, q)
 }
 

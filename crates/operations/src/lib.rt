@@ -1,10 +1,11 @@
-// The six operations (SPECIFICATION 12.1 to 12.6, 12.9), for all tick lengths, bytes, contents and lengths: code and
+// The seven operations (SPECIFICATION 12.1 to 12.6, 12.9, 12.10), for all tick lengths, bytes, contents and lengths: code and
 // promise of the whole tool on one page. `period` is the tick length in milliseconds, one for all texts of a call; one
 // that is not allowed is refused with code 24 before all else (SPECIFICATION 4.7, 13.3). Each parses and measures what
 // it is given, makes slices that have room for it, small ones where small ones do, and hands them to the layers below.
 // There is no heap, and no way to hand a function slices that are made elsewhere by a choice: so the choice stands in
 // each of them.
 use clocks_read::Reading;
+use joining::JoinAnswer;
 use limits::FEW_STATES;
 use refusals::Verdict;
 use safe_states::SafeAnswer;
@@ -15,6 +16,7 @@ ghost use mathlib.Core.Path.{_≡_};
 ghost use lib.ListN.{length};
 ghost use Rattle.clocks_read.specs.Reading.{read-outcome};
 ghost use Rattle.implementation_check.specs.Outcome.{implementation-outcome};
+ghost use Rattle.joining.specs.Outcome as joining;
 ghost use Rattle.safe_states.specs.Outcome as safe;
 ghost use Rattle.search.specs.Outcome.{Outcome, Scratch};
 ghost use Rattle.tables.specs.Outcome.{Checked, Widened};
@@ -232,5 +234,45 @@ pub fn widest(
         &mut rh,
         keep,
         table,
+    )
+}
+
+// Writes the joined text of two texts into out; its length, or codes 24, 1 to 12, 25 and 26 (SPECIFICATION 12.10).
+pub fn join(period: usize, left: &[u8], right: &[u8], out: &mut [u8]) -> JoinAnswer
+    ensures { λ r. ⌜ _≡_ {A = joining.Outcome} (record { answer = r; out = now (out .exit) })
+        (joining.join-outcome period (now (left .entry)) (now (right .entry)) (now (out .entry))) ⌝ }
+{
+    let texts = two_texts::measure_two(period, left, right);
+    if texts.few {
+        let mut lm = clocks_read::moves_for_few_states();
+        let mut rm = clocks_read::moves_for_few_states();
+        let mut lh = clocks_read::bits_for_few_states();
+        let mut rh = clocks_read::bits_for_few_states();
+        return joining::join(
+            period,
+            left,
+            right,
+            texts,
+            &mut lm,
+            &mut rm,
+            &mut lh,
+            &mut rh,
+            out,
+        );
+    }
+    let mut lm = clocks_read::moves_for_any_text();
+    let mut rm = clocks_read::moves_for_any_text();
+    let mut lh = clocks_read::bits_for_any_text();
+    let mut rh = clocks_read::bits_for_any_text();
+    joining::join(
+        period,
+        left,
+        right,
+        texts,
+        &mut lm,
+        &mut rm,
+        &mut lh,
+        &mut rh,
+        out,
     )
 }

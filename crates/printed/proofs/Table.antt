@@ -31,6 +31,7 @@ use Rattle.tables.specs.Outcome.{Widened, widest-refused, widest-systems}
 use Rattle.two_operations.specs.Outcome.{widest-outcome}
 use Rattle.demands.specs.Files.{file-length}
 use Rattle.byte_slices.specs.Laid.{Laid, laid}
+use Rattle.byte_slices.specs.Put.{front-laid}
 use Rattle.printed_lines.specs.Lines.{refusal-line}
 use Rattle.printed.specs.Prints.{program-tick, zeros, table-printed, widest-prints}
 
@@ -112,22 +113,13 @@ module _ (left right : List ℕ) where
           (systems-alike (left-system program-tick (compared program-tick left right e))
           (right-system program-tick (compared program-tick left right e)) keep t u l)
 
--- a file at the front of a slice is laid over it
-file-laid : (t u file : List ℕ) (bytes : ℕ) → length file ≡ bytes → bytes ≤ length t
-    → _≡_ {A = Laid} (record { slice = file ++ drop bytes t; count = bytes }) (laid t (take bytes (file ++ drop
-    bytes u)))
-unfolding laid
-file-laid t u file bytes l m =
-    rw (take-at file (drop bytes u) bytes l, take-all (length t) file (omega arith), l)
-    (ap (λ (n : ℕ). record { slice = file ++ drop bytes t; count = n }) (omega arith))
-
 alike-made :
     {t u : List ℕ} {bytes count : ℕ} {start : Bool} {a b : Widened} → Alike t u bytes a b
     → a .answer ≡ answer.Made count start
     → _≡_ {A = Laid} (record { slice = a .table; count = bytes }) (laid t (table-printed bytes (b .answer) (b .table)))
 unfolding table-printed
 alike-made refused e = let z : _≡_ {A = ℕ} 0 1 = cc in absurd (omega arith)
-alike-made {t} {u} {bytes} (made file l m) e = file-laid t u file bytes l m
+alike-made {t} {u} {bytes} (made file l m) e = front-laid t u file bytes l m
 
 -- and has room in the slice
 alike-fits :

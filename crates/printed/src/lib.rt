@@ -26,7 +26,7 @@ ghost use Rattle.printed.specs.Prints.{program-tick, zeros, entries, cou
 ghost use Rattle.printed.specs.Prints.{megzhoi-prints, widest-prints, recheck-prints, implementation-prints};
 
 // The tick length of the programs (SPECIFICATION 14.1).
-const PROGRAM_TICK: usize = 1;
+pub const PROGRAM_TICK: usize = 1;
 
 // The entries of back, of line and of run, and the bytes of the table that is counted.
 const ENTRIES: usize = 16384;

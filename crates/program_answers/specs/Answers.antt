@@ -1,15 +1,15 @@
--- What program megzhoi's lines mean, for any two files (SPECIFICATION 14.2, 14.4, 17.5), and what program
--- implementation's line means, for any file (SPECIFICATION 14.7, 17.8). Definitions only: Program.antt and
--- Implementation.antt prove it.
+-- What program megzhoi's lines mean, for any two files (SPECIFICATION 14.2, 14.4, 17.5), what program implementation's
+-- line means, for any file (SPECIFICATION 14.7, 17.8), and what program join prints, for any two files (SPECIFICATION
+-- 14.8, 17.10). Definitions only: Program.antt, Implementation.antt and Joining.antt prove it.
 use mathlib.Core.Path.{_≡_}
 use mathlib.Core.Bool.{true}
-use mathlib.Core.Option.{some}
+use mathlib.Core.Option.{none, some}
 use mathlib.Core.List.{List}
 use Prim.Native.Nat.{ℕ, _*_, _≤_, _<_}
 use lib.ListN.{length}
 use Rattle.limits.specs.Limits.{keep-limit}
 use Rattle.refusals.specs.declared.Refusal.{Refusal}
-use Rattle.refusals.specs.Refusals.{queue-too-short, start-not-safe, output-beside-tick, neither-possible}
+use Rattle.refusals.specs.Refusals.{queue-too-short, start-not-safe, output-beside-tick, neither-possible, limit-exceeded}
 use Rattle.refusals.specs.declared.Verdict.the-variants as verdict
 use Rattle.systems.specs.Definitions.{Implementation, Satisfies, Makes, Allows}
 use Rattle.reachable.specs.declared.Finding.the-variants.{OutputBesideTick, NeitherPossible}
@@ -19,8 +19,10 @@ use Rattle.clocks_read.specs.Reading.{read-outcome}
 use Rattle.two_texts.specs.Two.{text-of, two-judged}
 use Rattle.tables.specs.declared.WidestAnswer.the-variants.{Made}
 use Rattle.two_operations.specs.Outcome.{widest-outcome}
+use Rattle.joining.specs.Outcome.{joined-record, joined-bytes}
 use Rattle.demands.specs.Words.{Consistent}
 use Rattle.guarantees.specs.Texts.{Accepted-text, Equal-channels, states, meaning, number, right-meaning}
+use Rattle.guarantees.specs.Joining.{Within, Joins}
 use Rattle.printed_lines.specs.Lines.{refusal-line, yes-line, passed-line, departure-lines}
 use Rattle.printed.specs.Prints.{program-tick, zeros, entries, counted-bytes}
 
@@ -90,3 +92,16 @@ pub data Implementation-answers (left printed : List ℕ) : Type 1 where
   passed : (a : Accepted-text program-tick left) → Is-implementation (meaning program-tick left a)
       → Own-implementation (meaning program-tick left a) (number program-tick left a) → printed ≡ passed-line
       → Implementation-answers left printed
+
+-- what program join prints, and what it means
+pub data Join-answers (left right printed : List ℕ) : Type 1 where
+  -- one of the codes 1 to 12
+  unjoined : (r : Refusal) → two-judged program-tick left right ≡ some r → printed ≡ refusal-line r
+      → Join-answers left right printed
+  -- 25: the joined text would pass a limit
+  limit : none ≡ two-judged program-tick left right
+      → (Within (joined-record program-tick left right) (joined-bytes program-tick left right) → ⊥)
+      → printed ≡ refusal-line limit-exceeded → Join-answers left right printed
+  -- a text that joins the two: read with tick length 1, it is satisfied exactly by what satisfies both
+  joined : (a : Accepted-text program-tick left) (b : Accepted-text program-tick right)
+      → Joins program-tick left right a b printed → Join-answers left right printed

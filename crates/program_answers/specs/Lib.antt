@@ -2,3 +2,4 @@ pub mod Answers
 pub mod Fits
 pub mod Program
 pub mod Implementation
+pub mod Joining

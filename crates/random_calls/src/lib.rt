@@ -1,6 +1,6 @@
-// Calls of the six operations at a tick length, `period`, with long, exact and short slices, what the enumerator says of
-// each, and a tally of answers and differences: the answer counts, and every byte and entry that is lent. Proved safe and
-// ending, no more.
+// Calls of six operations, all but join, at a tick length, `period`, with long, exact and short slices, what the
+// enumerator says of each, and a tally of answers and differences: the answer counts, and every byte and entry that is
+// lent. Proved safe and ending, no more.
 use enumerator::moves::ACCEPTED;
 use enumerator::moves::ROW;
 use enumerator::moves::accepted;
@@ -48,22 +48,24 @@ use tables::CheckAnswer;
 use tables::WidestAnswer;
 ghost use Prim.Native.Nat.{_≤_};
 
-// Entries of the tally: calls by code, from 0 for accepted to 24, then these.
-pub const DIFFERENCES: usize = 25;
+// Entries of the tally: calls by code, from 0 for accepted to 26, then these.
+pub const DIFFERENCES: usize = 27;
 
-pub const DEPARTURES: usize = 26;
+pub const DEPARTURES: usize = 28;
 
-pub const NO_DEPARTURE: usize = 27;
+pub const NO_DEPARTURE: usize = 29;
 
-pub const WITH_START: usize = 28;
+pub const WITH_START: usize = 30;
 
-pub const IMPLEMENTATIONS: usize = 29;
+pub const IMPLEMENTATIONS: usize = 31;
 
-pub const ROUNDED: usize = 30;
+pub const ROUNDED: usize = 32;
 
-pub const LEFT_OUT: usize = 31;
+pub const JOINED: usize = 33;
 
-pub const TALLY: usize = 32;
+pub const LEFT_OUT: usize = 34;
+
+pub const TALLY: usize = 35;
 
 // The tick length at which a text is written in ticks.
 const IN_TICKS: usize = 1;
@@ -146,7 +148,7 @@ struct Lengths {
 }
 
 // An accepted answer, with a number and a flag.
-fn done(n: usize, flag: bool) -> Refusal {
+pub fn done(n: usize, flag: bool) -> Refusal {
     Refusal {
         code: ACCEPTED,
         file: NO_FILE,
@@ -167,7 +169,7 @@ fn fill_entries(s: &mut [u32], seed: u32) {
     }
 }
 
-fn same_bytes(s: &[u8], want: &[u8]) -> bool {
+pub fn same_bytes(s: &[u8], want: &[u8]) -> bool {
     for i in 0..s.len() {
         if byte(s, i) != byte(want, i) {
             return false;
@@ -185,7 +187,7 @@ fn same_entries(s: &[u32], want: &[u32]) -> bool {
     true
 }
 
-fn at_most(n: usize, most: usize) -> usize
+pub fn at_most(n: usize, most: usize) -> usize
     ensures { λ r. ⌜ r ≤ most ⌝ }
 {
     if n < most {
@@ -216,14 +218,14 @@ fn lengths_of(w: Two, seed: u32) -> Lengths {
     }
 }
 
-fn add(tally: &mut [usize], k: usize, is_due: bool) {
+pub fn add(tally: &mut [usize], k: usize, is_due: bool) {
     if is_due && k < tally.len() {
         tally[k] = plus(tally[k], 1);
     }
 }
 
 // Counts a call by the code of its answer, and a difference if the answer or a slice is not as expected.
-fn count_call(tally: &mut [usize], expected: Refusal, is_right: bool) {
+pub fn count_call(tally: &mut [usize], expected: Refusal, is_right: bool) {
     add(&mut *tally, expected.code, true);
     add(tally, DIFFERENCES, !is_right);
 }
@@ -361,7 +363,7 @@ fn safe_case(period: usize, text: &[u8], r: Reading, rows: &[u32], seed: u32, ta
 }
 
 // An accepted answer has the number n.
-fn answer_of(answer: Verdict, n: usize) -> Refusal {
+pub fn answer_of(answer: Verdict, n: usize) -> Refusal {
     match answer {
         Verdict::Refused(f) => f,
         Verdict::Accepted => done(n, false),
@@ -725,10 +727,17 @@ fn lent_cases(
     two_cases(period, left, right, a, b, &l, seed, tally);
 }
 
-// All operations but reading, on two texts; the implementation check on each of them.
-pub fn all_cases(period: usize, left: &[u8], right: &[u8], seed: u32, tally: &mut [usize]) {
-    let a = enumerator::safe::read(period, left);
-    let b = enumerator::safe::read(period, right);
+// All operations but reading and join, on two texts of which the enumerator has read a and b; the implementation check
+// on each of them.
+pub fn all_cases(
+    period: usize,
+    left: &[u8],
+    right: &[u8],
+    a: Reading,
+    b: Reading,
+    seed: u32,
+    tally: &mut [usize],
+) {
     implementation_case(period, left, a, &mut *tally);
     implementation_case(period, right, b, &mut *tally);
     lent_cases(period, left, right, a, b, seed, tally);

@@ -12,15 +12,19 @@ use limits::LARGEST_NAME;
 use limits::LOCATION_LIMIT;
 use limits::LONGEST_TICK;
 
-// What a text is like: `size` rules how many items it has, `seed` what it says, `gap` how it is spaced and named, in which
-// order its channels are declared, and at which location and channel the change is; `period` is the tick length at which it
-// is written, in range. Small structs keep the proofs short.
+// What a text is like: `size` rules how many channels it has, `counts` how many clocks and locations and how large its
+// constants are, `seed` what it says, `gap` how it is spaced and named, in which order its channels are declared, and
+// at which location and channel the change is; `period` is the tick length at which it is written, in range;
+// `is_made_like` says that its channels are named like the names that joining makes. Small structs keep the proofs
+// short.
 pub struct Shape {
     pub period: usize,
     pub size: u32,
+    pub counts: u32,
     pub seed: u32,
     pub gap: u32,
     pub change: usize,
+    pub is_made_like: bool,
 }
 
 // How far a text is written, how many edges it has, and the first refusal that is known of it: its code, 0 for none, and
@@ -108,6 +112,9 @@ const RESET_TO_ONE: usize = 29;
 
 const CHANGES: usize = 30;
 
+// A change that comes up in viewpoints alone.
+const LARGE_CONSTANTS: usize = 30;
+
 // What is chosen. To the first ones the number of an edge in its group or of a comparison is added.
 const TARGETS: usize = 8;
 
@@ -166,6 +173,9 @@ const FEW: usize = 4;
 
 const MOST_BLANKS: usize = 3;
 
+// A clock with so many constants and another one have more states than there may be, in a few locations.
+const MANY: usize = 200;
+
 // How often something comes up: one time in so many, or some times in so many.
 const EITHER: usize = 2;
 
@@ -196,6 +206,15 @@ const PERIOD_ODDS: usize = 16;
 const USUAL_ODDS: usize = 12;
 
 const OUT_OF_RANGE_ODDS: usize = 3;
+
+const ENLARGING_ODDS: usize = 4;
+
+const ENLARGING_CHANGES: usize = 4;
+
+// The letters of names like those that joining makes, and the numbers behind them.
+const MADE_LETTERS: usize = 3;
+
+const MADE_DIGITS: usize = 3;
 
 // The items of a list, and the signs of a comparison.
 const CHANNEL_ITEMS: usize = 0;
@@ -313,7 +332,7 @@ pub fn clocks(g: Shape) -> usize {
     if g.change == MANY_CLOCKS {
         return plus(CLOCK_LIMIT, excess(g));
     }
-    let n = pick(g.size, CLOCKS, 0, 0, CLOCK_LIMIT + 1);
+    let n = pick(g.counts, CLOCKS, 0, 0, CLOCK_LIMIT + 1);
     if n == 0 && changes_comparison(g) {
         return 1;
     }
@@ -335,17 +354,20 @@ pub fn locations(g: Shape) -> usize {
     if g.change == MANY_LOCATIONS {
         return plus(LOCATION_LIMIT, excess(g));
     }
-    plus(pick(g.size, LOCATIONS, 0, 0, FEW), 1)
+    plus(pick(g.counts, LOCATIONS, 0, 0, FEW), 1)
 }
 
 // Constants are below this number, which is small where there are many clocks, so that there are few states.
 fn constants(g: Shape) -> usize {
-    if pick(g.size, CONSTANTS, 0, 0, LARGE_ODDS) == 0 {
+    if g.change == LARGE_CONSTANTS && clocks(g) <= 1 {
+        return MANY;
+    }
+    if pick(g.counts, CONSTANTS, 0, 0, LARGE_ODDS) == 0 {
         return FEW;
     }
     match clocks(g) {
         0 | 1 => FEW + 1,
-        2 => plus(pick(g.size, CONSTANTS, 1, 0, EITHER), 1),
+        2 => plus(pick(g.counts, CONSTANTS, 1, 0, EITHER), 1),
         _ => 1,
     }
 }
@@ -476,12 +498,33 @@ fn name(buf: &mut [u8], p: Pen, letter: u8, n: usize, last: u8) -> Pen {
     put(buf, q, last)
 }
 
+// A name like one that joining makes (SPECIFICATION 18.6): underscores, a letter, and a digit, which is one that no
+// other text has if the channel is renamed.
+fn made_like(buf: &mut [u8], p: Pen, g: Shape, c: usize) -> Pen {
+    let letter = match c % MADE_LETTERS {
+        0 => b'l',
+        1 => b'c',
+        _ => b'p',
+    };
+    let mut n = pick(g.size, LETTERS, c, 0, MADE_DIGITS);
+    if g.change == RENAMED && is_about(g, c) {
+        n = MADE_DIGITS;
+    }
+    let mut q = again(&mut *buf, p, b'_', c / MADE_LETTERS);
+    q = put(&mut *buf, q, letter);
+    digit(buf, q, n, 1, 1)
+}
+
 fn channel(buf: &mut [u8], p: Pen, g: Shape, c: usize) -> Pen {
     let mut last = even_or_odd(c, b'a', b'b');
+    let is_long = g.change == LONG_CHANNEL && is_about(g, c);
+    if g.is_made_like && !is_long {
+        return made_like(buf, p, g, c);
+    }
     if g.change == RENAMED && is_about(g, c) {
         last = b'c';
     }
-    let n = letters(g, g.change == LONG_CHANNEL && is_about(g, c), c);
+    let n = letters(g, is_long, c);
     name(buf, p, b'a', n, last)
 }
 
@@ -1141,12 +1184,36 @@ pub fn shape_of(period: usize, size: u32, seed: u32, gap: u32, often: usize) -> 
     let g = Shape {
         period,
         size,
+        counts: size,
         seed,
         gap,
         change,
+        is_made_like: false,
     };
     if period == 0 || LONGEST_TICK < period {
         return in_ticks(g);
     }
     g
+}
+
+// A change that makes a text larger and mostly keeps it accepted.
+fn enlarging(counts: u32) -> usize {
+    match pick(counts, CHANGE, 1, 0, ENLARGING_CHANGES) {
+        0 => LARGE_CONSTANTS,
+        1 => LONG_INVARIANT,
+        2 => LONG_GUARD,
+        _ => MANY_LOCATIONS,
+    }
+}
+
+// The same shape with another number of clocks and locations, and with other names of channels, if that is asked for:
+// texts of one size so have equal channels, but for a change. Some are made larger, so that joining them passes a limit.
+pub fn viewpoint(g: Shape, counts: u32, is_made_like: bool) -> Shape {
+    let mut h = g;
+    h.counts = counts;
+    h.is_made_like = is_made_like;
+    if pick(counts, CHANGE, 0, 0, ENLARGING_ODDS) == 0 {
+        h.change = enlarging(counts);
+    }
+    h
 }

@@ -1,11 +1,13 @@
-// Small random texts and pairs of them through the six operations at random tick lengths, compared with the plain enumerator:
-// the answers and everything that is lent. Prints one line: the calls by kind of answer, and the differences, which are 0.
+// Small random texts and pairs of them through the seven operations at random tick lengths, compared with the plain
+// enumerator: the answers and everything that is lent. Prints one line: the calls by kind of answer, and the
+// differences, which are 0. What it must print comes from tests/random_counts.py.
 use enumerator::moves::ACCEPTED;
 use libc::STDOUT_FILENO;
 use limits::LARGEST_TEXT;
 use random_calls::DEPARTURES;
 use random_calls::DIFFERENCES;
 use random_calls::IMPLEMENTATIONS;
+use random_calls::JOINED;
 use random_calls::LEFT_OUT;
 use random_calls::NO_DEPARTURE;
 use random_calls::ROUNDED;
@@ -31,6 +33,9 @@ const OTHER: usize = 3;
 
 const LONG: usize = 128;
 
+// Of so many pairs of viewpoints one has channels with names like those that joining makes.
+const MADE_LIKE: usize = 3;
+
 // Parts of a seed.
 const LEFT: usize = 1;
 
@@ -43,6 +48,14 @@ const DAMAGES: usize = 4;
 const LONGS: usize = 5;
 
 const PERIODS: usize = 6;
+
+const VIEWPOINTS: usize = 7;
+
+const LEFT_COUNTS: usize = 8;
+
+const RIGHT_COUNTS: usize = 9;
+
+const NAMES: usize = 10;
 
 fn is_one_of(seed: u32, what: usize, n: usize) -> bool {
     random_texts::pick(seed, what, 0, 0, n) == 0
@@ -60,9 +73,17 @@ fn write_text(buf: &mut [u8], g: Shape) -> Pen {
     p
 }
 
+// All operations but reading, on two texts.
+fn all_cases(period: usize, left: &[u8], right: &[u8], seed: u32, tally: &mut [usize]) {
+    let a = enumerator::safe::read(period, left);
+    let b = enumerator::safe::read(period, right);
+    random_calls::all_cases(period, left, right, a, b, seed, &mut *tally);
+    random_joins::join_cases(period, left, right, a, b, seed, tally);
+}
+
 fn both_orders(period: usize, left: &[u8], right: &[u8], seed: u32, tally: &mut [usize]) {
-    random_calls::all_cases(period, left, right, seed, &mut *tally);
-    random_calls::all_cases(period, right, left, seed, tally);
+    all_cases(period, left, right, seed, &mut *tally);
+    all_cases(period, right, left, seed, tally);
 }
 
 // A text beside one that is a byte too long (SPECIFICATION 4.3).
@@ -118,7 +139,7 @@ fn two_texts(
 ) {
     let a: usize = 0;
     if n <= left.len() && m <= right.len() {
-        random_calls::all_cases(period, &left[a..n], &right[a..m], seed, &mut *tally);
+        all_cases(period, &left[a..n], &right[a..m], seed, &mut *tally);
         long_cases(period, &left[a..n], seed, tally);
     }
 }
@@ -134,6 +155,42 @@ fn text_cases(period: usize, g: Shape, h: Shape, seed: u32, tally: &mut [usize])
     two_texts(period, &left, p.at, &right, q.at, seed, tally);
 }
 
+// Join alone, on two texts that are so written.
+fn join_texts(
+    period: usize,
+    left: &[u8],
+    n: usize,
+    right: &[u8],
+    m: usize,
+    seed: u32,
+    tally: &mut [usize],
+) {
+    let i: usize = 0;
+    if n <= left.len() && m <= right.len() {
+        let a = enumerator::safe::read(period, &left[i..n]);
+        let b = enumerator::safe::read(period, &right[i..m]);
+        random_joins::join_cases(period, &left[i..n], &right[i..m], a, b, seed, tally);
+    }
+}
+
+// A viewpoint of a unit: texts of one size have equal channels, but for a change, and their own clocks and locations.
+fn viewpoint(period: usize, size: u32, part: u32, counts: usize) -> Shape {
+    let g = random_texts::shape_of(period, size, part, part, LEFT_CHANGES);
+    let is_made_like = is_one_of(size, NAMES, MADE_LIKE);
+    random_texts::viewpoint(g, random_texts::part(size, counts), is_made_like)
+}
+
+// Two viewpoints of one unit (SPECIFICATION 18.1), joined.
+fn viewpoint_cases(period: usize, size: u32, tally: &mut [usize]) {
+    let mut left = [0u8; LARGEST_TEXT];
+    let mut right = [0u8; LARGEST_TEXT];
+    let g = viewpoint(period, size, random_texts::part(size, LEFT), LEFT_COUNTS);
+    let h = viewpoint(period, size, random_texts::part(size, RIGHT), RIGHT_COUNTS);
+    let p = write_text(&mut left, g);
+    let q = write_text(&mut right, h);
+    join_texts(period, &left, p.at, &right, q.at, size, tally);
+}
+
 // The right text mostly says the same as the left, with one change.
 fn one_case(i: usize, tally: &mut [usize]) {
     let seed = random_texts::part(SEED, i);
@@ -146,7 +203,8 @@ fn one_case(i: usize, tally: &mut [usize]) {
     let gap_right = random_texts::part(seed, RIGHT);
     let left = random_texts::shape_of(period, seed, seed, gap, LEFT_CHANGES);
     let right = random_texts::shape_of(period, seed, other, gap_right, RIGHT_CHANGES);
-    text_cases(period, left, right, seed, tally);
+    text_cases(period, left, right, seed, &mut *tally);
+    viewpoint_cases(period, random_texts::part(seed, VIEWPOINTS), tally);
 }
 
 fn run_cases(tally: &mut [usize]) {
@@ -182,6 +240,7 @@ fn put_line(tally: &[usize]) {
     put_entry(b", start pairs ", tally, WITH_START);
     put_entry(b", implementations ", tally, IMPLEMENTATIONS);
     put_entry(b", rounded ", tally, ROUNDED);
+    put_entry(b", joined ", tally, JOINED);
     put_entry(b", left out ", tally, LEFT_OUT);
     put_entry(b", accepted ", tally, ACCEPTED);
     programs::put(b", refused");

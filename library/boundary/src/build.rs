@@ -21,6 +21,7 @@ types! {
         *const u8, usize, *const u8, usize, *mut u8, usize, *mut u32, usize, *mut u32, usize, *mut u32, usize;
     Check, CheckBefore: *const u8, usize, *const u8, usize, *mut u8, usize, *const u8, usize;
     Widest, WidestBefore: *const u8, usize, *const u8, usize, *mut u8, usize, *mut u8, usize;
+    Join, JoinBefore: *const u8, usize, *const u8, usize, *mut u8, usize;
 }
 
 /// A function that takes the tick length before its other arguments, or an older one that does not.
@@ -56,6 +57,8 @@ pub struct Build {
     search: Function<Search, SearchBefore>,
     check: Function<Check, CheckBefore>,
     widest: Function<Widest, WidestBefore>,
+    /// An older build may lack it.
+    join: Option<Function<Join, JoinBefore>>,
 }
 
 /// The environment variables that name the shared objects of an older build and of this one.
@@ -78,6 +81,7 @@ impl Build {
         search: Function::Now(raw::megzhoi_search),
         check: Function::Now(raw::megzhoi_check),
         widest: Function::Now(raw::megzhoi_widest),
+        join: Some(Function::Now(raw::megzhoi_join)),
     };
 
     /// The older build that MEGZHOI_BEFORE names, if it names one. A shared object is made from an archive by
@@ -137,6 +141,7 @@ impl Build {
             search: function!(Search, SearchBefore, named(c"megzhoi_search")),
             check: function!(Check, CheckBefore, named(c"megzhoi_check")),
             widest: function!(Widest, WidestBefore, named(c"megzhoi_widest")),
+            join: find(c"megzhoi_join").map(|found| function!(Join, JoinBefore, found)),
         }
     }
 }
@@ -245,5 +250,17 @@ impl Operations for Build {
                 table.as_mut_ptr(), table.len(), file, p, q,
             )
         })
+    }
+
+    #[rustfmt::skip]
+    fn join(&self, tick_length: usize, left: &[u8], right: &[u8], out: &mut [u8]) -> Option<Returned> {
+        let join = self.join?;
+        // SAFETY: as in `read`.
+        Some(returned(|file, p, q| unsafe {
+            call!(
+                join, tick_length,
+                left.as_ptr(), left.len(), right.as_ptr(), right.len(), out.as_mut_ptr(), out.len(), file, p, q,
+            )
+        }))
     }
 }

@@ -1,4 +1,4 @@
-//! The verified library's six functions, called on the caller's own thread.
+//! The verified library's seven functions, called on the caller's own thread.
 //!
 //! They go through the wrapper's declarations and return the numbers as they come, undecoded. The functions need more
 //! stack than a thread has by default (`megzhoi::STACK`): call them inside `on_large_stack`.

@@ -1,4 +1,4 @@
-//! The six operations, whoever carries them out. Each takes the tick length first.
+//! The seven operations, whoever carries them out. Each takes the tick length first.
 
 use crate::Returned;
 use plain::Refusal;
@@ -25,6 +25,9 @@ pub trait Operations {
     fn check(&self, tick_length: usize, left: &[u8], right: &[u8], keep: &mut [u8], table: &[u8]) -> Returned;
 
     fn widest(&self, tick_length: usize, left: &[u8], right: &[u8], keep: &mut [u8], table: &mut [u8]) -> Returned;
+
+    /// `None` for an older build that does not have the operation.
+    fn join(&self, tick_length: usize, left: &[u8], right: &[u8], out: &mut [u8]) -> Option<Returned>;
 }
 
 /// Plain Rust, tables pair by pair.
@@ -87,6 +90,10 @@ impl Operations for ByPairs {
     fn widest(&self, tick_length: usize, left: &[u8], right: &[u8], keep: &mut [u8], table: &mut [u8]) -> Returned {
         Returned::plainly(plain::widest(tick_length, left, right, keep, table), pairs_and_start)
     }
+
+    fn join(&self, tick_length: usize, left: &[u8], right: &[u8], out: &mut [u8]) -> Option<Returned> {
+        Some(Returned::plainly(plain::join(tick_length, left, right, out), |length| (length, 0)))
+    }
 }
 
 /// Only the widest table and its check go by rows; the others are the same as by pairs.
@@ -122,5 +129,9 @@ impl Operations for ByRows {
 
     fn widest(&self, tick_length: usize, left: &[u8], right: &[u8], keep: &mut [u8], table: &mut [u8]) -> Returned {
         Returned::plainly(plain::widest_by_rows(tick_length, left, right, keep, table), pairs_and_start)
+    }
+
+    fn join(&self, tick_length: usize, left: &[u8], right: &[u8], out: &mut [u8]) -> Option<Returned> {
+        ByPairs.join(tick_length, left, right, out)
     }
 }

@@ -3,7 +3,7 @@
 use boundary::ONLY_TICK;
 use plain::TICK_LIMIT;
 use texts::kinds::{departing, texts, Kind, KINDS};
-use texts::{at_a_limit, damaged, noise, passive, relay, urgent, Model, Random, Reach};
+use texts::{at_a_limit, damaged, joinable, noise, passive, relay, urgent, Model, Random, Reach};
 use texts::{early, hush, idle, loose, post, rearm, sheet, spare, strict};
 use texts::{in_milliseconds, with_other_numeral};
 
@@ -135,6 +135,16 @@ fn kinds_of_ticks(random: &mut Random) -> Texts {
         8 => (texts(Kind::Late, states, clocks, channels).0, texts(Kind::Full, states, clocks, channels).1),
         _ => (texts(*random.pick(&KINDS), states, clocks, channels).0, right),
     }
+}
+
+/// Two texts to be joined at a tick length: mostly ones that can be or that are near a limit, else any as above.
+pub fn two_to_join(random: &mut Random, tick_length: usize) -> Texts {
+    let texts = match random.below(10) {
+        0..=6 => joinable(random),
+        7 => kinds_of_ticks(random),
+        _ => two_of_ticks(random),
+    };
+    both_at_tick_length(random, tick_length, texts)
 }
 
 /// What a call on two texts is given.

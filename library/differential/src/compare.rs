@@ -3,7 +3,7 @@
 
 use crate::cases::{self, Given};
 use boundary::{Build, ByPairs, Operations, Returned};
-use plain::codes::RUN_TOO_SHORT;
+use plain::codes::{OUT_TOO_SHORT, RUN_TOO_SHORT};
 use std::fmt::Debug;
 use texts::Random;
 
@@ -244,4 +244,23 @@ pub fn widest(random: &mut Random, other: &dyn Operations, given: Given) -> Made
     made.compare_lent("keep", &of_library, &of_other);
     made.compare_lent("table", &table_of_library, &table_of_other);
     made
+}
+
+/// `None` where one of the two does not have the operation.
+pub fn join(random: &mut Random, other: &dyn Operations, given: Given) -> Option<Made> {
+    let Given { tick_length, left, right } = given;
+    let need = match plain::join(tick_length, &left, &right, &mut []) {
+        Err(plain::Refusal { code: OUT_TOO_SHORT, p, .. }) => p,
+        _ => random.below(plain::TEXT_LIMIT + 10),
+    };
+    let length = cases::length(random, need);
+    let mut of_library = lent_bytes(random, length);
+    let mut of_other = of_library.clone();
+    let both = Both {
+        library: Build::LINKED.join(tick_length, &left, &right, of_library.slice())?,
+        other: other.join(tick_length, &left, &right, of_other.slice())?,
+    };
+    let mut made = Made::new(both, tick_length, vec![("left", left), ("right", right)], format!("out {length}"));
+    made.compare_lent("out", &of_library, &of_other);
+    Some(made)
 }

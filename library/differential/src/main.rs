@@ -34,8 +34,9 @@ const SEARCH: usize = 2;
 const CHECK: usize = 3;
 const WIDEST: usize = 4;
 const IMPLEMENTATION: usize = 5;
+const JOIN: usize = 6;
 
-const OPERATIONS: [Operation; 6] = [
+const OPERATIONS: [Operation; 7] = [
     Operation {
         name: "read",
         call: compare::read,
@@ -72,6 +73,12 @@ const OPERATIONS: [Operation; 6] = [
         codes: &[0, 1, 2, 3, 4, 5, 6, 7, 8, 9, 10, 11, 22, 23, 24],
         two_texts: false,
     },
+    Operation {
+        name: "join",
+        call: on_texts_to_join,
+        codes: &[0, 1, 2, 3, 4, 5, 6, 7, 8, 9, 10, 11, 12, 24, 25, 26],
+        two_texts: true,
+    },
 ];
 
 /// A call on two texts, compared with another's.
@@ -87,6 +94,17 @@ fn on_text_to_judge(random: &mut Random) -> Made {
     let tick_length = cases::tick_length(random);
     let text = cases::text_to_judge(random, tick_length);
     compare::implementation(&ByPairs, tick_length, text).expect("both have it")
+}
+
+fn on_texts_to_join(random: &mut Random) -> Made {
+    let given = texts_to_join(random, cases::tick_length);
+    compare::join(random, &ByPairs, given).expect("both have it")
+}
+
+fn texts_to_join(random: &mut Random, tick_length: impl Fn(&mut Random) -> usize) -> Given {
+    let tick_length = tick_length(random);
+    let (left, right) = cases::two_to_join(random, tick_length);
+    Given { tick_length, left, right }
 }
 
 /// The calls made on each pair of texts to hold two builds against each other, by their place in `OPERATIONS`:
@@ -181,6 +199,9 @@ fn run_before() -> ExitCode {
     if !has_implementation(&before) {
         println!("the older build has no implementation check, and that of this one was not compared");
     }
+    if !has_join(&before) {
+        println!("the older build does not join texts, and what this one joins was not compared");
+    }
     if !before.takes_tick_length() {
         println!("the older build takes no tick length, and both were called with {ONLY_TICK}");
     }
@@ -189,9 +210,17 @@ fn run_before() -> ExitCode {
     ExitCode::SUCCESS
 }
 
-/// Two texts of a kind or, every fourth time, random ones, at a tick length that the older build can be called with.
+/// A tick length that the older build can be called with.
+fn tick_length_for(before: &Build, random: &mut Random) -> usize {
+    match before.takes_tick_length() {
+        true => cases::tick_length(random),
+        false => ONLY_TICK,
+    }
+}
+
+/// Two texts of a kind or, every fourth time, random ones.
 fn pair_for(before: &Build, random: &mut Random) -> Given {
-    let tick_length = if before.takes_tick_length() { cases::tick_length(random) } else { ONLY_TICK };
+    let tick_length = tick_length_for(before, random);
     let make = if random.chance(75) { cases::two_of_a_kind } else { cases::two_texts };
     let (left, right) = make(random, tick_length);
     Given { tick_length, left, right }
@@ -202,7 +231,13 @@ fn has_implementation(before: &Build) -> bool {
     before.implementation(ONLY_TICK, &[]).is_some()
 }
 
-/// The calls on two texts and, where the older build has it, the implementation check of both and of a third one.
+/// An older build may be without the joining; what it says of empty texts does not matter here.
+fn has_join(before: &Build) -> bool {
+    before.join(ONLY_TICK, &[], &[], &mut []).is_some()
+}
+
+/// The calls on two texts and, where the older build has them, the implementation check of both and of a third one, and
+/// the joining of the two and of two others.
 fn agrees_on_a_pair(counts: &mut Counts, before: &Build, random: &mut Random, given: &Given) -> bool {
     for (operation, call) in ON_A_PAIR {
         if !agrees(counts, operation, || call(random, before, given.clone())) {
@@ -213,7 +248,12 @@ fn agrees_on_a_pair(counts: &mut Counts, before: &Build, random: &mut Random, gi
         |text: &Vec<u8>| compare::implementation(before, given.tick_length, text.clone()).expect("both have it");
     let third = cases::text_to_judge(random, given.tick_length);
     let mut to_judge = [&given.left, &given.right, &third].into_iter().filter(|_| has_implementation(before));
-    to_judge.all(|text| agrees(counts, IMPLEMENTATION, || judge(text)))
+    if !to_judge.all(|text| agrees(counts, IMPLEMENTATION, || judge(text))) {
+        return false;
+    }
+    let others = texts_to_join(random, |random| tick_length_for(before, random));
+    let mut to_join = [given.clone(), others].into_iter().filter(|_| has_join(before));
+    to_join.all(|given| agrees(counts, JOIN, || compare::join(random, before, given).expect("both have it")))
 }
 
 /// Makes a call and counts its code; where the two differ, or one panics, reports it and says no.

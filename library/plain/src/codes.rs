@@ -24,9 +24,11 @@ pub const RUN_TOO_SHORT: usize = 21;
 pub const OUTPUT_BESIDE_TICK: usize = 22;
 pub const NEITHER_POSSIBLE: usize = 23;
 pub const TICK_OUT_OF_RANGE: usize = 24;
+pub const LIMIT_EXCEEDED: usize = 25;
+pub const OUT_TOO_SHORT: usize = 26;
 
 /// Every code with its name.
-pub const ALL: [(&str, usize); 24] = [
+pub const ALL: [(&str, usize); 26] = [
     ("TEXT_TOO_LONG", TEXT_TOO_LONG),
     ("MISFIT", MISFIT),
     ("NAME_TOO_LONG", NAME_TOO_LONG),
@@ -51,4 +53,6 @@ pub const ALL: [(&str, usize); 24] = [
     ("OUTPUT_BESIDE_TICK", OUTPUT_BESIDE_TICK),
     ("NEITHER_POSSIBLE", NEITHER_POSSIBLE),
     ("TICK_OUT_OF_RANGE", TICK_OUT_OF_RANGE),
+    ("LIMIT_EXCEEDED", LIMIT_EXCEEDED),
+    ("OUT_TOO_SHORT", OUT_TOO_SHORT),
 ];

@@ -1,4 +1,4 @@
-//! The six operations (SPECIFICATION 12) over lent slices, in plain Rust.
+//! The seven operations (SPECIFICATION 12) over lent slices, in plain Rust.
 //!
 //! Nothing here is proved. It was written from the rules alone, without the proved code, and serves
 //! two ends: the differential test compares the verified library with it, and the benchmark measures
@@ -9,6 +9,7 @@
 
 pub mod codes;
 mod implementation;
+mod joining;
 mod moves;
 mod pairing;
 mod reader;
@@ -56,7 +57,7 @@ pub struct Widest {
 }
 
 /// A text longer than this is refused with code 1.
-const TEXT_LIMIT: usize = 32_768;
+pub const TEXT_LIMIT: usize = 32_768;
 
 /// The longest tick in milliseconds; the shortest is 1.
 pub const TICK_LIMIT: usize = 60_000;
@@ -178,6 +179,20 @@ fn widest_with(
     Ok(make(&pair, &shape, table))
 }
 
+/// Writes the conjunction of two texts into `out` as a text; gives its length (SPECIFICATION 12.10).
+pub fn join(tick_length: usize, left: &[u8], right: &[u8], out: &mut [u8]) -> Result<usize, Refusal> {
+    let Two { left: (left_record, _), right: (right_record, _), partner } = read_two(tick_length, left, right)?;
+    let names: Vec<&[u8]> = left_record.channels.iter().map(|channel| channel.name.spelling(left)).collect();
+    let Some(text) = joining::text(&left_record, &right_record, &partner, &names) else {
+        return Err(Refusal::new(codes::LIMIT_EXCEEDED, 0, 0, 0));
+    };
+    if out.len() < text.len() {
+        return Err(Refusal::new(codes::OUT_TOO_SHORT, 0, text.len(), 0));
+    }
+    out[..text.len()].copy_from_slice(&text);
+    Ok(text.len())
+}
+
 /// Code 24, before anything is looked at.
 fn judge_tick(tick_length: usize) -> Result<(), Refusal> {
     if (1..=TICK_LIMIT).contains(&tick_length) {
@@ -208,14 +223,26 @@ fn read_text(tick_length: usize, text: &[u8], file: usize) -> Result<(Record, Sy
     Ok((record, system))
 }
 
-/// Reads both texts, pairs their channels and finds the left's safe states: codes 24 and 1 to 12.
-fn read_pair(tick_length: usize, left: &[u8], right: &[u8]) -> Result<Pair, Refusal> {
+/// Two texts that were read, and for each of the left's steps the right's number.
+struct Two {
+    left: (Record, System),
+    right: (Record, System),
+    partner: Vec<usize>,
+}
+
+/// Reads both texts and pairs their channels: codes 24 and 1 to 12.
+fn read_two(tick_length: usize, left: &[u8], right: &[u8]) -> Result<Two, Refusal> {
     judge_tick(tick_length)?;
     judge_length(left, 1)?;
     judge_length(right, 2)?;
-    let (left_record, mut left_system) = read_text(tick_length, left, 1)?;
-    let (right_record, right_system) = read_text(tick_length, right, 2)?;
-    let partner = pairing::partners(left, &left_record, right, &right_record)?;
+    let (of_left, of_right) = (read_text(tick_length, left, 1)?, read_text(tick_length, right, 2)?);
+    let partner = pairing::partners(left, &of_left.0, right, &of_right.0)?;
+    Ok(Two { left: of_left, right: of_right, partner })
+}
+
+/// Reads both texts, pairs their channels and finds the left's safe states: codes 24 and 1 to 12.
+fn read_pair(tick_length: usize, left: &[u8], right: &[u8]) -> Result<Pair, Refusal> {
+    let Two { left: (_, mut left_system), right: (_, right_system), partner } = read_two(tick_length, left, right)?;
     let right_system = right_system.reordered(&partner);
     let safe = SafeSet::of(&left_system);
     prune(&mut left_system, &safe);

@@ -1,4 +1,4 @@
-//! The six operations on the caller's own thread, which has to have stack enough.
+//! The seven operations on the caller's own thread, which has to have stack enough.
 
 use super::{raw, Code, Record, Refusal, Safe, Side, Widest};
 
@@ -109,4 +109,18 @@ pub unsafe fn widest(
         )
     })?;
     Ok(Widest { pairs, start: start == 1 })
+}
+
+/// See [`super::join`].
+///
+/// # Safety
+/// The thread has [`super::STACK`] bytes of stack left.
+pub unsafe fn join(tick_length: usize, left: &[u8], right: &[u8], out: &mut [u8]) -> Result<usize, Refusal> {
+    let (length, _) = answer(|file, p, q| unsafe {
+        raw::megzhoi_join(
+            tick_length, left.as_ptr(), left.len(), right.as_ptr(), right.len(), out.as_mut_ptr(), out.len(),
+            file, p, q,
+        )
+    })?;
+    Ok(length)
 }

@@ -2,7 +2,8 @@
 //!
 //! A draft (left) is held against a contract (right), both texts in a subset of XTA; docs/SPECIFICATION.md has the
 //! rules. Every slice is the caller's: [`read`] gives the numbers of states, and [`keep_bytes`], [`table_bytes`] and
-//! [`queue_entries`] say from these how long the slices are.
+//! [`queue_entries`] say from these how long the slices are. [`join`] writes two contracts as one text, in at most
+//! [`TEXT_LIMIT`] bytes.
 //!
 //! Each operation takes the tick length first, 1 to [`TICK_LIMIT`] milliseconds, one for both texts: a constant of c
 //! milliseconds comes to c / tick length ticks, the nearest whole number, an exact half upward. With 1 the constants
@@ -57,6 +58,9 @@ use std::thread;
 
 /// Bytes of stack that each call is given: `MEGZHOI_STACK` of `megzhoi.h`, which says what was measured.
 pub const STACK: usize = 6 << 20;
+
+/// Bytes of the longest text, and so of the longest joined one.
+pub const TEXT_LIMIT: usize = 32_768;
 
 /// Milliseconds of the longest tick.
 pub const TICK_LIMIT: usize = 60_000;
@@ -238,6 +242,41 @@ pub fn widest(
     table: &mut [u8],
 ) -> Result<Widest, Refusal> {
     with_stack(|| unsafe { here::widest(tick_length, left, right, keep, table) })
+}
+
+/// Joins two texts with equal channels: writes into `out` one that a system satisfies exactly if it satisfies both, and
+/// gives the number of its bytes. Its constants are ticks whatever the tick length of the two was, so it is to be read
+/// with tick length 1. No joined text has more than [`TEXT_LIMIT`] bytes.
+///
+/// ```
+/// use megzhoi::{join, queue_entries, read, search, Code, KEEP_BYTES, TEXT_LIMIT};
+///
+/// # fn example(name: &str) -> std::io::Result<Vec<u8>> {
+/// #     std::fs::read(format!("{}/../../examples/{name}", env!("CARGO_MANIFEST_DIR")))
+/// # }
+/// # fn main() -> Result<(), Box<dyn std::error::Error>> {
+/// // One viewpoint has `late` at tick 2 or 3, the other at tick 2.
+/// let (loose, early) = (example("Loose.xta")?, example("Early.xta")?);
+/// let mut out = vec![0; TEXT_LIMIT];
+/// let length = join(1, &loose, &early, &mut out)?;
+/// let joined = &out[..length];
+/// assert!(joined.starts_with(b"broadcast chan pass , spike , late ; process p0 ( ) { clock c0 , c1 ; state l0 { "));
+///
+/// // What keeps the joined text keeps both.
+/// for viewpoint in [&loose, &early] {
+///     let entries = queue_entries(read(1, joined)?.states, read(1, viewpoint)?.states);
+///     let (mut back, mut line, mut run) = (vec![0; entries], vec![0; entries], vec![0; entries]);
+///     assert_eq!(search(1, joined, viewpoint, &mut [0; KEEP_BYTES], &mut back, &mut line, &mut run)?, 0);
+/// }
+///
+/// // A slice that is too short is refused with the number of bytes that are needed.
+/// let refusal = join(1, &loose, &early, &mut [0; 40]).unwrap_err();
+/// assert_eq!((refusal.code, refusal.p), (Code::OutTooShort, length));
+/// # Ok(())
+/// # }
+/// ```
+pub fn join(tick_length: usize, left: &[u8], right: &[u8], out: &mut [u8]) -> Result<usize, Refusal> {
+    with_stack(|| unsafe { here::join(tick_length, left, right, out) })
 }
 
 /// The bytes of `keep` for a text, the left one, of so many states: a bit for each. 0 where no text has so many

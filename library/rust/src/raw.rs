@@ -52,6 +52,10 @@ extern "C" {
         keep: *mut u8, keep_len: usize, table: *mut u8, table_len: usize,
         file: *mut usize, p: *mut usize, q: *mut usize,
     ) -> usize;
+    pub fn megzhoi_join(
+        tick_length: usize, left: *const u8, left_len: usize, right: *const u8, right_len: usize,
+        out: *mut u8, out_len: usize, file: *mut usize, p: *mut usize, q: *mut usize,
+    ) -> usize;
     pub fn megzhoi_keep_bytes(states: usize) -> usize;
     pub fn megzhoi_table_bytes(left_states: usize, right_states: usize) -> usize;
     pub fn megzhoi_queue_entries(left_states: usize, right_states: usize) -> usize;

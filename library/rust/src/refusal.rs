@@ -12,7 +12,7 @@ use std::fmt;
 /// assert_eq!(code, Code::KeepTooShort);
 /// assert_eq!(code.number(), 13);
 /// assert_eq!(code.text(), "keep is too short");
-/// assert!(Code::try_from(25).is_err());
+/// assert!(Code::try_from(27).is_err());
 /// # Ok::<(), megzhoi::NoSuchCode>(())
 /// ```
 #[derive(Clone, Copy, Debug, PartialEq, Eq, PartialOrd, Ord, Hash)]
@@ -43,6 +43,8 @@ pub enum Code {
     OutputBesideTick = 22,
     NeitherPossible = 23,
     TickOutOfRange = 24,
+    LimitExceeded = 25,
+    OutTooShort = 26,
 }
 
 impl Code {
@@ -72,9 +74,11 @@ impl Code {
         Code::OutputBesideTick,
         Code::NeitherPossible,
         Code::TickOutOfRange,
+        Code::LimitExceeded,
+        Code::OutTooShort,
     ];
 
-    /// The code as C has it, from 1 to 24.
+    /// The code as C has it, from 1 to 26.
     pub fn number(self) -> usize {
         self as usize
     }
@@ -106,13 +110,15 @@ impl Code {
             Code::OutputBesideTick => "an output is possible beside a tick, in a reachable state",
             Code::NeitherPossible => "neither a tick nor an output is possible, in a reachable state",
             Code::TickOutOfRange => "the tick length is not 1 to 60,000",
+            Code::LimitExceeded => "the joined text would pass a limit",
+            Code::OutTooShort => "out is too short for the joined text",
         }
     }
 
     /// What `p` and `q` of a refusal with this code are; `None` where the number is always 0.
     pub fn values(self) -> (Option<&'static str>, Option<&'static str>) {
         match self {
-            Code::TextTooLong | Code::OtherTable => (None, None),
+            Code::TextTooLong | Code::OtherTable | Code::LimitExceeded => (None, None),
             Code::Misfit
             | Code::NameTooLong
             | Code::DeclaredBefore
@@ -124,7 +130,7 @@ impl Code {
             Code::InputWithoutMove | Code::TwoEdges | Code::OutputBesideTick => (Some("state"), Some("channel")),
             Code::NeitherPossible => (Some("state"), None),
             Code::UnmatchedChannel => (Some("channel"), None),
-            Code::KeepTooShort | Code::TableTooShort => (Some("bytes needed"), None),
+            Code::KeepTooShort | Code::TableTooShort | Code::OutTooShort => (Some("bytes needed"), None),
             Code::QueueTooShort | Code::RunTooShort => (Some("entries needed"), None),
             Code::StartNotSafe => (Some("left start"), None),
             Code::StartPairNotSet => (Some("left start"), Some("right start")),

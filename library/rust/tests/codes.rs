@@ -1,6 +1,6 @@
 //! Holds what stands in several places against each other: the codes and their texts in `megzhoi.h`, here, in plain
 //! Rust and in the definitions of the proved crates; the record's layout, and the other numbers of the header.
-use megzhoi::{raw, Code, KEEP_BYTES, STACK, TICK_LIMIT};
+use megzhoi::{raw, Code, KEEP_BYTES, STACK, TEXT_LIMIT, TICK_LIMIT};
 use std::fs;
 
 /// A file of the repository.
@@ -45,7 +45,7 @@ fn here() -> Vec<(String, usize)> {
 
 #[test]
 fn numbers_and_names() {
-    assert_eq!(here().iter().map(|code| code.1).collect::<Vec<_>>(), (1..=24).collect::<Vec<_>>());
+    assert_eq!(here().iter().map(|code| code.1).collect::<Vec<_>>(), (1..=26).collect::<Vec<_>>());
     assert_eq!(enumerated("MEGZHOI_MISFIT ="), here());
     let plain: Vec<(String, usize)> = plain::codes::ALL.iter().map(|(name, code)| (name.to_string(), *code)).collect();
     assert_eq!(plain, here());
@@ -69,7 +69,7 @@ fn numbers_to_codes() {
         assert_eq!(Code::try_from(code.number()), Ok(code));
         assert_eq!(usize::from(code), code.number());
     }
-    for number in [0, 25, usize::MAX] {
+    for number in [0, 27, usize::MAX] {
         assert_eq!(Code::try_from(number).unwrap_err().0, number);
     }
 }
@@ -131,6 +131,8 @@ fn other_numbers() {
     assert_eq!(stack.parse::<usize>().unwrap() << 20, STACK);
     let keep = between(&header, "#define MEGZHOI_KEEP_BYTES ", "\n").expect("a line");
     assert_eq!(keep.parse(), Ok(KEEP_BYTES));
+    let text = between(&header, "#define MEGZHOI_TEXT_LIMIT ", "\n").expect("a line");
+    assert_eq!(text.parse(), Ok(TEXT_LIMIT));
     let tick = between(&header, "#define MEGZHOI_TICK_LIMIT ", "\n").expect("a line");
     assert_eq!((tick.parse(), plain::TICK_LIMIT), (Ok(TICK_LIMIT), TICK_LIMIT));
 }

@@ -1,6 +1,6 @@
 //! The posts through the wrapper; the expected values are those of SPECIFICATION 16.
-use megzhoi::{check, implementation, read, safe_states, search, widest};
-use megzhoi::{Code, Direction, Label, Refusal, Side, Sign, KEEP_BYTES, TICK_LIMIT};
+use megzhoi::{check, implementation, join, read, safe_states, search, widest};
+use megzhoi::{Code, Direction, Label, Refusal, Side, Sign, KEEP_BYTES, TEXT_LIMIT, TICK_LIMIT};
 
 /// The tick length with which constants are ticks.
 const TICK: usize = 1;
@@ -308,4 +308,43 @@ fn tick_lengths_out_of_range() {
     }
     let shown = read(0, POST.as_bytes()).unwrap_err().to_string();
     assert_eq!(shown, "code 24: the tick length is not 1 to 60,000 (tick length 0)");
+}
+
+/// Two posts joined, with room enough (SPECIFICATION 18).
+fn joined(tick_length: usize, left: &[u8], right: &[u8]) -> Result<String, Refusal> {
+    let mut out = vec![0; TEXT_LIMIT];
+    let length = join(tick_length, left, right, &mut out)?;
+    Ok(String::from_utf8(out[..length].to_vec()).expect("ASCII"))
+}
+
+#[test]
+fn joined_posts() {
+    let text = joined(TICK, loose().as_bytes(), early().as_bytes()).unwrap();
+    assert_eq!((count(&text, &loose()), count(&text, &early())), (Ok(0), Ok(0)));
+    assert_eq!((count(&early(), &text), count(&loose(), &text)), (Ok(0), Ok(3)));
+    // A spike sets the one clock and not the other: after it no implementation keeps both.
+    let contradicting = joined(TICK, POST.as_bytes(), rearm().as_bytes()).unwrap();
+    assert_eq!(count(&contradicting, POST), refused(17, 1, 0, 0));
+    assert_eq!(joined(1000, &sheet(), &sheet()), joined(TICK, POST.as_bytes(), POST.as_bytes()));
+}
+
+#[test]
+fn joining_refused() {
+    let (loose, early) = (loose(), early());
+    let length = joined(TICK, loose.as_bytes(), early.as_bytes()).unwrap().len();
+    for short in [0, length - 1] {
+        let mut out = vec![7; short];
+        assert_eq!(join(TICK, loose.as_bytes(), early.as_bytes(), &mut out), refused(26, 0, length, 0));
+        assert_eq!(out, vec![7; short]);
+    }
+    let mut out = vec![7; length + 3];
+    assert_eq!(join(TICK, loose.as_bytes(), early.as_bytes(), &mut out), Ok(length));
+    assert_eq!(out[length..], [7; 3]);
+    let two_clocks = changed(POST, "clock x", "clock x, y");
+    assert_eq!(joined(TICK, two_clocks.as_bytes(), two_clocks.as_bytes()), refused(25, 0, 0, 0));
+    assert_eq!(join(TICK, two_clocks.as_bytes(), two_clocks.as_bytes(), &mut []), refused(25, 0, 0, 0));
+    assert_eq!(joined(TICK, POST.as_bytes(), b""), refused(2, 2, 0, 0));
+    let other = changed(POST, "late", "tardy");
+    assert_eq!(joined(TICK, POST.as_bytes(), other.as_bytes()), refused(12, 1, 3, 0));
+    assert_eq!(joined(0, POST.as_bytes(), b""), refused(24, 0, 0, 0));
 }

@@ -1,14 +1,14 @@
 //! Five sixths of `STACK` are enough for each call: `megzhoi.h` says what was measured.
 //!
 //! MEGZHOI_STACK=bytes tries another size; where it is too small, the test ends by a signal.
-use megzhoi::{here, keep_bytes, queue_entries, table_bytes, KEEP_BYTES, STACK};
+use megzhoi::{here, keep_bytes, queue_entries, table_bytes, KEEP_BYTES, STACK, TEXT_LIMIT};
 use std::thread;
 use texts::{chain, drifting, full_of_edges, full_of_tokens, passive, post, Kind, Reach};
 
 /// The tick length with which constants are ticks.
 const TICK: usize = 1;
 
-/// All six operations on two texts, on the caller's thread.
+/// All seven operations on two texts, on the caller's thread.
 fn operations(left: &[u8], right: &[u8]) {
     // SAFETY: whether the stack is large enough is what is tried here.
     unsafe {
@@ -22,6 +22,12 @@ fn operations(left: &[u8], right: &[u8]) {
         let found = here::search(TICK, left, right, &mut keep, &mut back, &mut line, &mut run);
         let made = here::widest(TICK, left, right, &mut keep, &mut table);
         let checked = here::check(TICK, left, right, &mut [0; KEEP_BYTES], &table);
+        let mut out = vec![0; TEXT_LIMIT];
+        let joined = here::join(TICK, left, right, &mut out);
+        // A joined text is one, and has at least as many states as it has pairs of locations.
+        let read_again = joined.as_ref().map(|length| here::read(TICK, &out[..*length]).expect("an accepted text"));
+        let pairs = of_left.locations.len() * of_right.locations.len();
+        assert!(read_again.is_ok_and(|record| record.locations.len() == pairs) || joined.is_err());
         // The start of an implementation is safe (SPECIFICATION 8.6).
         assert!(safe.start || judged.is_err());
         assert_eq!([found.is_ok(), made.is_ok()], [safe.start; 2]);

@@ -1,10 +1,11 @@
 //! Contract texts for tests and benchmarks: the posts (SPECIFICATION 16.1), seeded random texts, ones that are
 //! implementations among them, texts with one fault, texts at and over each limit, texts of a chosen size, pairs of
-//! texts by kind, and any of these in milliseconds.
+//! texts by kind, pairs to be joined, and any of these in milliseconds.
 
 #![forbid(unsafe_code)]
 
 mod damage;
+mod joinable;
 pub mod kinds;
 mod limits;
 mod milliseconds;
@@ -15,10 +16,12 @@ mod sized;
 mod urgent;
 
 pub use damage::{damaged, noise};
+pub use joinable::{joinable, of_joined_length};
 pub use limits::at_a_limit;
 pub use milliseconds::{in_milliseconds, with_other_numeral};
 pub use model::{Comparison, Edge, Model};
 pub use posts::{early, hush, idle, loose, post, rearm, sheet, spare, strict};
 pub use random::Random;
-pub use sized::{chain, drifting, full_of_edges, full_of_tokens, passive, relay, scaled_post, Kind, Reach};
+pub use sized::{at_single_values, chain, drifting, full_of_edges, full_of_tokens, passive, relay, scaled_post};
+pub use sized::{Kind, Reach};
 pub use urgent::urgent;

@@ -57,7 +57,13 @@ impl Model {
 
     /// The same over given channels.
     pub fn with_channels(random: &mut Random, channels: Vec<(String, bool)>, locations: usize) -> Model {
-        let clocks: Vec<String> = (0..random.below(4)).map(|i| format!("x{i}")).collect();
+        let clocks = random.below(4);
+        Model::with_clocks(random, channels, clocks, locations)
+    }
+
+    /// The same with so many clocks.
+    pub fn with_clocks(random: &mut Random, channels: Vec<(String, bool)>, clocks: usize, locations: usize) -> Model {
+        let clocks: Vec<String> = (0..clocks).map(|i| format!("x{i}")).collect();
         let count = random.between(1, locations);
         let mut model = Model {
             channels,

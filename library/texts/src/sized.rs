@@ -144,6 +144,12 @@ pub fn chain(values: usize) -> (Vec<u8>, Vec<u8>) {
     (text("x", &names, &locations.join(", "), &edges), right)
 }
 
+/// One location and so many edges for one output, each at a single value of the clock.
+pub fn at_single_values(count: usize) -> Vec<u8> {
+    let edges: Vec<String> = (0..count).map(|value| guarded(&format!("x == {value}"), "o!", "")).collect();
+    text("x", &["o".to_string()], "L", &edges)
+}
+
 /// 128 edges with four comparisons each, filled up with spaces to 32,768 bytes. The clocks have
 /// `values` and `values` / 2 values, and there are 8 locations.
 pub fn full_of_edges(values: usize) -> Vec<u8> {

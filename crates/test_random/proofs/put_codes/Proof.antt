@@ -5,10 +5,10 @@ use Rattle.test_random.proofs.put_codes.Statement.{statement}
 use Rattle.test_random.proofs.put_codes.Tie as tie
 
 abbrev Inv-loop : tie.InvT-loop
-Inv-loop tally k₀ k = k ≤ 25
+Inv-loop tally k₀ k = k ≤ 27
 
 abbrev μ-loop : tie.MeasureT-loop
-μ-loop tally k₀ k = 25 - k
+μ-loop tally k₀ k = 27 - k
 
 pub put-codes-spec : {M : Type 1} → statement M
 put-codes-spec =

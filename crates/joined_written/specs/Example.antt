@@ -1,0 +1,51 @@
+-- Post and Idle joined (SPECIFICATION 18.10), from their records to the bytes that are written.
+use mathlib.Core.Path.{_≡_, refl}
+use mathlib.Core.List.{List, _++_}
+use Prim.Native.Nat.{ℕ}
+use lib.Dec.{T}
+use Rattle.systems.specs.Tests.{any, least}
+use Rattle.byte_slices.specs.Decimal.{digit, digits, decimal}
+use Rattle.reader_record.specs.declared.Text.{Text}
+use Rattle.reader_tokens.specs.Scan.{bytes}
+use Rattle.reader_examples.specs.Texts.{post, idle}
+use Rattle.reader_examples.specs.Records.{post-record, idle-record}
+use Rattle.clocks.specs.States.{state-count}
+use Rattle.pairing.specs.Channels.{right-step}
+use Rattle.joined.specs.Joined.{joined-text, counts-fit}
+use Rattle.joined.specs.Examples.{opened}
+use Rattle.written.specs.Spaced.{after-token, spaced-tokens, later-items, part-tokens, numbered-items}
+use Rattle.written.specs.Written.{called, sign-bytes, comparison-tokens, constraint-tokens, location-tokens, mark-bytes, label-tokens, reset-clocks, assignment-tokens, resets-tokens, edge-tokens, list-tokens, channel-list, clock-list, location-list, edge-list, text-tokens, written-with}
+use Rattle.written.specs.Underscores.{is-channel-name, clashes, underscores, underscores-of, written-text}
+use Rattle.written_names.specs.Spelled.{channel-spellings}
+
+-- the channels of Post and Idle pair up by name
+abbrev pub to-idle : ℕ → ℕ
+to-idle = right-step post post-record idle idle-record
+
+abbrev pub post-idle : Text
+post-idle = joined-text to-idle post-record idle-record
+
+-- the two as one text, one line: `late` is declared and has no edge
+abbrev pub post-idle-text : List ℕ
+post-idle-text =
+    bytes "broadcast chan pass , spike , late ; process p0 ( ) { clock c0 , c1 ; "
+    ++ (bytes "state l0 { c0 <= 3 } , l1 { c0 <= 3 } , l2 , l3 ; init l0 ; trans "
+    ++ (bytes "l0 -> l3 { sync pass ? ; } , l1 -> l3 { sync pass ? ; } , "
+    ++ (bytes "l0 -> l0 { sync spike ? ; } , l1 -> l1 { sync spike ? ; } , "
+    ++ (bytes "l2 -> l3 { sync pass ? ; } , l3 -> l3 { sync pass ? ; } , "
+    ++ bytes "l2 -> l2 { sync spike ? ; } , l3 -> l3 { sync spike ? ; } ; } system p0 ;\n"))))
+
+pub post-idle-written : written-text (channel-spellings post post-record) post-idle ≡ post-idle-text
+unfolding opened any least digit digits decimal after-token spaced-tokens later-items part-tokens numbered-items called
+    sign-bytes comparison-tokens constraint-tokens location-tokens mark-bytes label-tokens reset-clocks
+    assignment-tokens resets-tokens edge-tokens list-tokens channel-list clock-list location-list edge-list text-tokens
+    written-with is-channel-name clashes underscores underscores-of written-text channel-spellings
+post-idle-written = refl
+
+pub post-idle-fits : T (counts-fit post-idle)
+unfolding opened
+post-idle-fits = tt
+
+pub post-idle-states : state-count post-idle ≡ 40
+unfolding opened
+post-idle-states = refl

@@ -1,0 +1,78 @@
+-- Records that say the same are written as the same text: so the code may build the joined record in arrays, with
+-- whatever filling, and write that.
+use mathlib.Core.Path.{_≡_, refl, ap}
+use mathlib.Core.Bool.{Bool, false}
+use mathlib.Core.List.{List, [], _∷_}
+use Prim.Native.Nat.{ℕ, zero, suc, _+_, _<_}
+use native.Mathlib.Nat.{zero-add}
+use native.Mathlib.Omega.{arith}
+use lib.ListN.{getD}
+use Rattle.reader_tokens.specs.Scan.{bytes}
+use Rattle.reader_record.specs.declared.Constraint.{Constraint}
+use Rattle.reader_record.specs.declared.Edge.{Edge}
+use Rattle.reader_record.specs.declared.Text.{Text}
+use Rattle.reader_record.specs.Record.{comparison, edge, invariant-of}
+use Rattle.joined.specs.Alike.{Alike-constraint, Alike-edge, Alike}
+use Rattle.written.specs.Spaced.{Tokens, part-tokens, numbered-items}
+use Rattle.written.specs.Written.{location-called, comparison-tokens, constraint-tokens, location-tokens, reset-clocks, resets-tokens, edge-tokens, list-tokens, location-list, edge-list, text-tokens, written-with}
+use Rattle.written.specs.Underscores.{underscores-of, written-text}
+
+items-same : (f g : ℕ → Tokens) (i n : ℕ) → ((k : ℕ) → k < n → f (i + k) ≡ g (i + k))
+    → numbered-items f i n ≡ numbered-items g i n
+unfolding numbered-items
+items-same f g i zero h = refl
+items-same f g i (suc n) h =
+    let a : f i ≡ g i = (let e : i + 0 ≡ i = omega arith in rw e at (h 0 (omega arith))) in
+    rw (a, items-same f g (suc i) n later)
+  where
+    later : (k : ℕ) → k < n → f (suc i + k) ≡ g (suc i + k)
+    later k l = let e : i + suc k ≡ suc i + k = omega arith in rw e at (h (suc k) (omega arith))
+
+constraint-same : (opening closing : List ℕ) (u : ℕ) (g h : Constraint) → Alike-constraint g h
+    → constraint-tokens opening closing u h ≡ constraint-tokens opening closing u g
+unfolding constraint-tokens
+constraint-same opening closing u g h s = ap (part-tokens (opening ∷ []) _ closing)
+    (rw (s .count) (items-same (λ i. comparison-tokens u (comparison h i)) (λ i. comparison-tokens u (comparison g i)) 0
+    (g .count) (λ k l. rw (zero-add k) (ap (comparison-tokens u) (s .each k l)))))
+
+resets-same : (a b : List Bool) → ((k : ℕ) → getD b k false ≡ getD a k false) → (i n : ℕ)
+    → reset-clocks b i n ≡ reset-clocks a i n
+unfolding reset-clocks
+resets-same a b h i zero = refl
+resets-same a b h i (suc n) = rw (h i, resets-same a b h (suc i) n)
+
+edge-same : (names : List (List ℕ)) (u clocks : ℕ) (e d : Edge) → Alike-edge e d
+    → edge-tokens names u clocks d ≡ edge-tokens names u clocks e
+unfolding edge-tokens resets-tokens
+edge-same names u clocks e d s =
+    rw (
+      constraint-same (bytes "guard") (bytes ";") u (e .guard) (d .guard) (s .guard),
+      resets-same (e .resets) (d .resets) (s .resets) 0 clocks,
+      s .source,
+      s .target,
+      s .label,
+    )
+
+-- a record that says what t says is written as t is
+module _ (t x : Text) (s : Alike t x) where
+  tokens-same : (names : List (List ℕ)) (u : ℕ) → text-tokens names u x ≡ text-tokens names u t
+  unfolding text-tokens
+  tokens-same names u = rw (locations-same, edges-same, s .channel-count, s .clock-count, s .init)
+    where
+      locations-same : location-list u x ≡ location-list u t
+      locations-same = unfold location-list list-tokens location-tokens in
+          rw (s .location-count) (ap (part-tokens _ _ _)
+          (items-same (location-tokens u x) (location-tokens u t) 0 (t .«location_count»)
+          (λ k l. rw (zero-add k) (ap (λ ws. location-called u k ∷ ws)
+          (constraint-same (bytes "{") (bytes "}") u (invariant-of t k) (invariant-of x k) (s .invariants k l))))))
+
+      edges-same : edge-list names u x ≡ edge-list names u t
+      edges-same = unfold edge-list list-tokens in
+          rw (s .edge-count, s .clock-count) (ap (part-tokens _ _ _)
+          (items-same (λ i. edge-tokens names u (t .«clock_count») (edge x i))
+          (λ i. edge-tokens names u (t .«clock_count») (edge t i)) 0 (t .«edge_count»)
+          (λ k l. rw (zero-add k) (edge-same names u (t .«clock_count») (edge t k) (edge x k) (s .edges k l)))))
+
+  pub text-same : (names : List (List ℕ)) → written-text names x ≡ written-text names t
+  unfolding written-text written-with underscores-of
+  text-same names = rw (tokens-same names, s .channel-count, s .clock-count, s .location-count)

@@ -1,0 +1,13 @@
+-- The name, then the space.
+use borrow.Author.Needs.{needs}
+use Rattle.writer_tokens.specs.TokenLaws.{token-puts}
+use Rattle.writer_tokens.proofs.put_named.Statement.{statement}
+use Rattle.writer_tokens.proofs.put_named.Tie as tie
+
+returns : tie.Need-returns
+returns c =
+    token-puts (c .before .before .before .before .before .before .put-name .ensures)
+    (c .before .before .put-space .ensures)
+
+pub put-named-spec : {M : Type 1} → statement M
+put-named-spec = tie.close (tie.spec (λ c κs. search needs) (λ c κs. search needs) (λ c. search needs) returns)
