@@ -1,10 +1,10 @@
 -- THE GUARANTEES, to be read first. The demands (SPECIFICATION 17.1 to 17.3) as theorems about the operations' own
 -- outcomes (safe-outcome, search-outcome, check-outcome, widest-outcome, implementation-outcome, join-outcome), which
--- the contracts of the operations equate with what the code answers and leaves in the lent slices. The words are defined in
--- Texts.antt and, for systems, in crate systems, Definitions.antt, in crate reachable, Meaning.antt, and in crate
--- demands, Words.antt; what each demand asks, clause by clause, is a record or a type of cases in crate demands,
--- Demands.antt and Answers.antt, and in Demands.antt, Implementations.antt, Lengths.antt and Joining.antt here. The other files of
--- this crate are laws: the operations on two texts are instances of those on two systems.
+-- the contracts of the operations equate with what the code answers and leaves in the lent slices. The words are
+-- defined in Texts.antt and, for systems, in crate systems, Definitions.antt, in crate reachable, Meaning.antt, and in
+-- crate demands, Words.antt; what each demand asks, clause by clause, is a record or a type of cases in crate demands,
+-- Demands.antt and Answers.antt, and in Demands.antt, Implementations.antt, Lengths.antt and Joining.antt here. The
+-- other files of this crate are laws: the operations on two texts are instances of those on two systems.
 use mathlib.Core.Path.{_≡_, subst}
 use mathlib.Core.Logic.{_↔_}
 use mathlib.Core.Option.{none, some}

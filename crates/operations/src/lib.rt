@@ -1,9 +1,9 @@
-// The seven operations (SPECIFICATION 12.1 to 12.6, 12.9, 12.10), for all tick lengths, bytes, contents and lengths: code and
-// promise of the whole tool on one page. `period` is the tick length in milliseconds, one for all texts of a call; one
-// that is not allowed is refused with code 24 before all else (SPECIFICATION 4.7, 13.3). Each parses and measures what
-// it is given, makes slices that have room for it, small ones where small ones do, and hands them to the layers below.
-// There is no heap, and no way to hand a function slices that are made elsewhere by a choice: so the choice stands in
-// each of them.
+// The seven operations (SPECIFICATION 12.1 to 12.6, 12.9, 12.10), for all tick lengths, bytes, contents and lengths:
+// code and promise of the whole tool on one page. `period` is the tick length in milliseconds, one for all texts of a
+// call; one that is not allowed is refused with code 24 before all else (SPECIFICATION 4.7, 13.3). Each parses and
+// measures what it is given, makes slices that have room for it, small ones where small ones do, and hands them to the
+// layers below. There is no heap, and no way to hand a function slices that are made elsewhere by a choice: so the
+// choice stands in each of them.
 use clocks_read::Reading;
 use joining::JoinAnswer;
 use limits::FEW_STATES;

@@ -38,8 +38,8 @@ returns-2 c =
     let load = c .before .before .before .before .before .before .before .before .before .before .before .before .before
     .before .before .before .before .before .before .before .load-two in
     judged-joined (args .period) (args .left .now) (args .right .now) (start .pre .0) (load .ensures)
-    (c .before .before .before .before .before .before .before .before .before .before .enum-told .given .1) (args .out .now)
-    (c .before .before .join-accepted .ensures)
+    (c .before .before .before .before .before .before .before .before .before .before .enum-told .given .1)
+    (args .out .now) (c .before .before .join-accepted .ensures)
 
 pub join-spec : {M : Type 1} → statement M
 join-spec =

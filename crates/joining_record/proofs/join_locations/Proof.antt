@@ -16,8 +16,8 @@ use Rattle.joining_record.proofs.join_locations.Tie as tie
 
 abbrev Inv-loop : tie.InvT-loop
 Inv-loop left right clocks width count list₀ pair₀ list pair = (length list ≡ location-limit)
-    × ((j : ℕ) → j < pair → Nearly (both-constraints clocks (invariant-at left (j / width)) (invariant-at right (j % width)))
-    (invariant-at list j))
+    × ((j : ℕ) → j < pair → Nearly
+    (both-constraints clocks (invariant-at left (j / width)) (invariant-at right (j % width))) (invariant-at list j))
 
 abbrev μ-loop : tie.MeasureT-loop
 μ-loop left right clocks width count list₀ pair₀ list pair = count - pair
