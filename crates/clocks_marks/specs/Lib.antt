@@ -1,4 +1,3 @@
 pub mod Marks
 pub mod Blocks
-pub mod Rows
 pub mod Runs
