@@ -52,9 +52,10 @@ picture: table
 test:
 	@.ci/run
 
-# No definition that docs/PROMISES.md lists rests on one that it does not list.
+# No definition that docs/PROMISES.md lists rests on one that it does not list, and it lists every division that is left.
 definitions:
 	@python3 tests/definitions.py
+	@python3 tests/divisions.py
 
 # The programs on some hundred pairs of files, all that they print compared with an independent reading in Python.
 programs:

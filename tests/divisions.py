@@ -59,7 +59,7 @@ def divisions(crate):
 def listed():
     """The names in the first column of the table of divisions."""
     part = open("docs/PROMISES.md", encoding="utf-8").read().split(SECTION, 1)[1].split("\n## ", 1)[0]
-    rows = part.split(HEAD, 1)[1].split("\n\n", 1)[0].split("\n")[2:]
+    rows = [line for line in part.split(HEAD, 1)[1].split("\n\n", 1)[0].split("\n") if line.startswith("|")]
     return {name for row in rows for name in re.findall(r"`(\w+::\w+)`", row.split("|")[1])}
 
 

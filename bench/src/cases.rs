@@ -8,7 +8,7 @@ use boundary::{ByPairs, Returned};
 use plain::codes::{LIMIT_EXCEEDED, OUTPUT_BESIDE_TICK};
 use std::rc::Rc;
 use texts::{at_single_values, chain, drifting, early, full_of_edges, full_of_tokens, of_joined_length, passive};
-use texts::{post, relay, scaled_post, Kind, Reach};
+use texts::{post, relay, scaled_post, short_rows, Kind, Reach};
 
 pub struct Table {
     pub title: &'static str,
@@ -135,10 +135,12 @@ fn implementations() -> Vec<Vec<Case>> {
 }
 
 fn reading() -> Vec<Vec<Case>> {
-    let texts: [(&str, fn() -> Vec<u8>); 6] = [
+    let texts: [(&str, fn() -> Vec<u8>); 8] = [
         ("Post", post),
         ("4 channels, 4,096 states", || drifting(64, 4, Kind::Refining).0),
         ("16 channels, 4,096 states", || drifting(64, 16, Kind::Refining).0),
+        ("4 channels, 4,050 states in rows of 2", || short_rows(45, 3)),
+        ("16 channels, 4,050 states in rows of 2", || short_rows(45, 15)),
         ("128 edges, 4,096 states, 32,768 bytes", || full_of_edges(32)),
         ("128 edges, 256 states, 32,768 bytes", || full_of_edges(8)),
         ("as many tokens as possible, 32,768 bytes", full_of_tokens),

@@ -18,11 +18,12 @@ use Rattle.clocks.specs.States.{state-count, too-many, judgement, invariants}
 use Rattle.clocks.specs.Encoding.{table-entry, table-size, judged-table, judged-holds}
 use Rattle.clocks.specs.Accepted as accepted
 use Rattle.clocks.specs.Judgement.{judgement-few}
-use Rattle.refusals.specs.declared.Verdict.the-variants.{Accepted, Refused}
+use Rattle.refusals.specs.declared.Verdict.the-variants.{Accepted}
 use Rattle.clocks_read.specs.Reading.{refused, judged-reading, parsed-reading, read-outcome}
 use Rattle.clocks_read.specs.Loading.{Loading, judged-loading, parsed-loading, load-outcome}
 use Rattle.limits.specs.Limits.{state-limit}
 use Rattle.reader.specs.declared.Parsed.{Parsed}
+use Rattle.clocks_states.specs.Parts.{Counted}
 use Rattle.clocks_read.specs.declared.Measured.{Measured}
 use Rattle.clocks_read.specs.Measured.{Measures, measured-loading}
 
@@ -103,14 +104,15 @@ module _ (period : ℕ) where
   unfolding measured-loading load-outcome
   measured-load s m e moves holds = ap (λ (p : Parsed). parsed-loading (p .answer) (p .text) moves holds) (e .parsed)
 
-  -- of an accepted text it has the number of states
-  pub measured-states : (s : List ℕ) (m : Measured) → Measures period s m → read-outcome period s .answer ≡ Accepted
-      → m .states ≡ state-count (read-outcome period s .text)
-  measured-states s m e a =
-      let r = read-accepted s a in
-      let p : m .parsed .answer ≡ verdict.Accepted = ap (λ (x : Parsed). x .answer) (e .parsed) ∙ r .parsed in
-      e .counted .counts p .count
-      ∙ ap state-count (ap (λ (x : Parsed). x .text) (e .parsed) ∙ sym (r .same))
+  -- of an accepted text it has the record, the ranges and the number of states
+  module _ (s : List ℕ) (m : Measured) (e : Measures period s m) (a : read-outcome period s .answer ≡ Accepted) where
+    pub measured-text : m .parsed .text ≡ read-outcome period s .text
+    measured-text = ap (λ (x : Parsed). x .text) (e .parsed) ∙ sym (read-accepted s a .same)
+
+    pub measured-counted : Counted (read-outcome period s .text) (m .ranges) (m .states)
+    measured-counted =
+        let p = ap (λ (x : Parsed). x .answer) (e .parsed) ∙ read-accepted s a .parsed in
+        rw (sym measured-text) (e .counted .counts p)
 
   -- reading goes by the judgement on the text that is measured
   pub measured-reading : (s : List ℕ) (m : Measured) → Measures period s m → (moves holds : List ℕ) (l : Loading)

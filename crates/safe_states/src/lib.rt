@@ -1,4 +1,5 @@
 // The operation that finds the safe states of a text (SPECIFICATION 12.2).
+use clocks::Ranges;
 use clocks_read::Measured;
 use reader_record::Text;
 use refusals::Refusal;
@@ -17,17 +18,17 @@ pub enum SafeAnswer {
 }
 
 // The safe states of an accepted text whose slices are filled, with a keep that is long enough.
-fn found(t: Text, n: usize, moves: &[u16], holds: &[u8], keep: &mut [u8]) -> SafeAnswer
-    requires { ⌜ Ready t n (now moves) (now holds) (now keep) ⌝ }
-    ensures { λ r. ⌜ _≡_ {A = Outcome} (record { answer = r; keep = now (keep .exit) })
+fn found(t: Text, r: Ranges, n: usize, moves: &[u16], holds: &[u8], keep: &mut [u8]) -> SafeAnswer
+    requires { ⌜ Ready t r n (now moves) (now holds) (now keep) ⌝ }
+    ensures { λ a. ⌜ _≡_ {A = Outcome} (record { answer = a; keep = now (keep .exit) })
         (found-outcome t (now (keep .entry))) ⌝ }
 {
     let channels = t.channels;
     let inputs = clocks_states::inputs_of(channels, t.channel_count);
     let steps = t.channel_count + 1;
     let count = clocks_safe::safe(&mut *keep, holds, moves, &inputs, n, steps);
-    let start = clocks_states::start_of(t.init, t.location_count, n);
-    let safe = bitmaps::get(keep, start);
+    let first = clocks_walk::first_of(r, t.init);
+    let safe = bitmaps::get(keep, first.state);
     SafeAnswer::Found(count, safe)
 }
 
@@ -55,7 +56,7 @@ pub fn safe_in(
                 return SafeAnswer::Refused(Refusal::keep_too_short(need));
             }
             let t = reading.text;
-            found(t, n, moves, holds, keep)
+            found(t, m.ranges, n, moves, holds, keep)
         }
     }
 }

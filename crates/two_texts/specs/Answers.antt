@@ -8,12 +8,12 @@ use Rattle.refusals.specs.declared.Refusal.{Refusal}
 use Rattle.reader_record.specs.declared.Text.{Text}
 use Rattle.reader_record.specs.Formed.{Well-formed}
 use Rattle.bitmaps.specs.Bits.{tab-from, written}
-use Rattle.bitmaps.specs.Packed.{bytes-for, packed}
-use Rattle.clocks.specs.States.{state-count, start-state, input, invariants}
-use Rattle.clocks.specs.Encoding.{Filled, table-entry, table-size}
+use Rattle.clocks.specs.declared.Ranges.{Ranges}
+use Rattle.clocks.specs.States.{ranges, state-count, start-state, input}
+use Rattle.clocks.specs.Encoding.{Filled}
 use Rattle.refusals.specs.Refusals.{right-file}
-use Rattle.refusals.specs.declared.Verdict.the-variants as verdict
-use Rattle.clocks_read.specs.declared.Reading.{Reading}
+use Rattle.clocks_read.specs.declared.Measured.{Measured}
+use Rattle.clocks_read.specs.Measured.{Measures}
 use Rattle.clocks_read.specs.Reading.{read-outcome}
 use Rattle.pairing.specs.Channels.{unmatched}
 use Rattle.pairing.specs.Table.{renumbered}
@@ -46,18 +46,18 @@ sides-of l r = record {
 unfoldable pub accepted : Text → Text → TwoTexts
 accepted l r = record { answer = Accepted; sides = sides-of l r; inputs = tab-from (input l) 0 step-limit }
 
--- a text with its state count, within the limit
-pub record Sized (t : Text) (n : ℕ) : Type 0 where
+-- a text with the ranges of its clocks, its state count within the limit
+pub record Sized (t : Text) (r : Ranges) : Type 0 where
   pub formed : Well-formed t
-  pub count : n ≡ state-count t
+  pub same : r ≡ ranges t
   pub few : state-count t ≤ state-limit
 
 -- at one tick length, `period` (SPECIFICATION 4.7)
 module _ (period : ℕ) where
-  -- the reading r of the text s, which is accepted
-  pub record Accepted-reading (s : List ℕ) (r : Reading) : Type 0 where
-    pub same : r ≡ read-outcome period s
-    pub accepted : r .answer ≡ verdict.Accepted
+  -- m is the text s, parsed and measured, which is accepted
+  pub record Accepted-measure (s : List ℕ) (m : Measured) : Type 0 where
+    pub measures : Measures period s m
+    pub accepted : read-outcome period s .answer ≡ Accepted
 
   -- how many entries the right's table has by the left's steps
   abbrev pub size-by-left : List ℕ → List ℕ → ℕ

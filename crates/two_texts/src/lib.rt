@@ -1,7 +1,7 @@
 // Reads the two texts of an operation, pairs their channels by name and tabulates both: codes 24
 // and 1 to 12.
+use clocks::Ranges;
 use clocks_read::Measured;
-use clocks_read::Reading;
 use limits::LARGEST_TEXT;
 use limits::STEP_LIMIT;
 use move_tables::Sides;
@@ -19,7 +19,7 @@ ghost use Rattle.clocks_read.specs.Measured.{Measures};
 ghost use Rattle.refusals.specs.Refusals.{in-file, text-too-long};
 ghost use Rattle.two_texts.specs.Loaded.{Loads};
 ghost use Rattle.two_texts.specs.Measured.{Few, Measures-two, Rooms};
-ghost use Rattle.two_texts.specs.Answers.{refused, sides-of, accepted, Sized, Accepted-reading, Paired, Right-loaded};
+ghost use Rattle.two_texts.specs.Answers.{refused, sides-of, accepted, Sized, Accepted-measure, Paired, Right-loaded};
 ghost use Rattle.limits.specs.Limits.{step-limit};
 
 // What reading two texts gives: whether both are accepted and their channels pair up; then their sizes and starts, and
@@ -56,30 +56,32 @@ fn refused(f: Refusal) -> TwoTexts
     }
 }
 
-// The sizes of two accepted texts.
-fn sides_of(l: Text, left_states: usize, r: Text, right_states: usize) -> Sides
-    requires { ⌜ Sized l «left_states» × Sized r «right_states» ⌝ }
+// The sizes and starts of two accepted texts.
+fn sides_of(l: Text, left: Ranges, r: Text, right: Ranges) -> Sides
+    requires { ⌜ Sized l left × Sized r right ⌝ }
     ensures { λ s. ⌜ s ≡ sides-of l r ⌝ }
 {
     let steps = l.channel_count + 1;
-    let left_start = clocks_states::start_of(l.init, l.location_count, left_states);
-    let right_start = clocks_states::start_of(r.init, r.location_count, right_states);
+    let left_states = clocks_states::state_count_of(l.location_count, left);
+    let right_states = clocks_states::state_count_of(r.location_count, right);
+    let left_first = clocks_walk::first_of(left, l.init);
+    let right_first = clocks_walk::first_of(right, r.init);
     Sides {
         left_states,
         right_states,
         steps,
-        left_start,
-        right_start,
+        left_start: left_first.state,
+        right_start: right_first.state,
     }
 }
 
 // The numbers of two accepted texts.
-fn accepted(l: Text, left_states: usize, r: Text, right_states: usize) -> TwoTexts
-    requires { ⌜ Sized l «left_states» × Sized r «right_states» ⌝ }
+fn accepted(l: Text, left: Ranges, r: Text, right: Ranges) -> TwoTexts
+    requires { ⌜ Sized l left × Sized r right ⌝ }
     ensures { λ t. ⌜ t ≡ accepted l r ⌝ }
 {
     let answer = Verdict::Accepted;
-    let sides = sides_of(l, left_states, r, right_states);
+    let sides = sides_of(l, left, r, right);
     let channels = l.channels;
     let inputs = clocks_states::inputs_of(channels, l.channel_count);
     TwoTexts {
@@ -93,28 +95,27 @@ fn accepted(l: Text, left_states: usize, r: Text, right_states: usize) -> TwoTex
 fn paired(
     period: usize,
     left: &[u8],
-    l: Reading,
+    ours: Measured,
     right: &[u8],
-    r: Reading,
+    theirs: Measured,
     moves: &mut [u16],
 ) -> TwoTexts
-    requires { ⌜ Accepted-reading period (now left) l × Accepted-reading period (now right) r
-        × (r .states * step-limit ≤ length (now moves)) ⌝ }
+    requires { ⌜ Accepted-measure period (now left) ours × Accepted-measure period (now right) theirs
+        × (theirs .states * step-limit ≤ length (now moves)) ⌝ }
     ensures { λ t. ⌜ Paired period (now (left .entry)) (now (right .entry)) (now (moves .entry)) (now (moves .entry))
         (now (moves .exit)) t ⌝ }
 {
-    let a = l.text;
-    let b = r.text;
+    let a = ours.parsed.text;
+    let b = theirs.parsed.text;
     let pairing = pairing::pair_channels(left, a, right, b);
     let answer = pairing.answer;
     match answer {
         Matched::Unmatched(f) => refused(f),
         Matched::Equal => {
             let map = pairing.map;
-            let n = r.states;
             let width = a.channel_count + 1;
-            pairing::renumber(moves, map, n, width);
-            accepted(a, l.states, b, n)
+            pairing::renumber(moves, map, theirs.states, width);
+            accepted(a, ours.ranges, b, theirs.ranges)
         }
     }
 }
@@ -123,25 +124,25 @@ fn paired(
 fn load_right(
     period: usize,
     left: &[u8],
-    l: Reading,
+    ours: Measured,
     right: &[u8],
-    m: Measured,
+    theirs: Measured,
     moves: &mut [u16],
     holds: &mut [u8],
 ) -> TwoTexts
-    requires { ⌜ Accepted-reading period (now left) l × Measures period (now right) m
-        × Room (m .states) (length (now moves)) (length (now holds)) ⌝ }
+    requires { ⌜ Accepted-measure period (now left) ours × Measures period (now right) theirs
+        × Room (theirs .states) (length (now moves)) (length (now holds)) ⌝ }
     ensures { λ t. ⌜ Right-loaded period (now (left .entry)) (now (right .entry)) (now (moves .exit))
         (now (holds .exit)) t ⌝ }
 {
-    let r = clocks_read::judge(m, moves, holds);
+    let r = clocks_read::judge(theirs, moves, holds);
     let answer = r.answer;
     match answer {
         Verdict::Refused(f) => {
             let g = f.in_file(RIGHT_FILE);
             refused(g)
         }
-        Verdict::Accepted => paired(period, left, l, right, r, moves),
+        Verdict::Accepted => paired(period, left, ours, right, theirs, moves),
     }
 }
 
@@ -216,6 +217,6 @@ pub fn load_two(
             let g = f.in_file(LEFT_FILE);
             refused(g)
         }
-        Verdict::Accepted => load_right(period, left, l, right, theirs, rm, rh),
+        Verdict::Accepted => load_right(period, left, ours, right, theirs, rm, rh),
     }
 }

@@ -23,5 +23,5 @@ pub use model::{Comparison, Edge, Model};
 pub use posts::{early, hush, idle, loose, post, rearm, sheet, spare, strict};
 pub use random::Random;
 pub use sized::{at_single_values, chain, drifting, full_of_edges, full_of_tokens, passive, relay, scaled_post};
-pub use sized::{Kind, Reach};
+pub use sized::{short_rows, Kind, Reach};
 pub use urgent::urgent;

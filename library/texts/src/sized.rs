@@ -150,6 +150,25 @@ pub fn at_single_values(count: usize) -> Vec<u8> {
     text("x", &["o".to_string()], "L", &edges)
 }
 
+/// A text whose states lie in rows of two: one location, a clock x that nothing compares, so that it has two values, and
+/// clocks y and z of `values` values each, so 2 × `values`² states. All channels are inputs with two edges each, by the
+/// value of y or z; the first sets y to 0, the second z.
+pub fn short_rows(values: usize, channels: usize) -> Vec<u8> {
+    let top = values - 2;
+    let names: Vec<String> = (0..channels).map(|i| format!("c{i}")).collect();
+    let mut edges = Vec::new();
+    for (i, name) in names.iter().enumerate() {
+        let clock = ["y", "z"][i % 2];
+        let (reset, sync) = (if i < 2 { clock } else { "" }, format!("{name}?"));
+        edges.push(guarded(&format!("{clock} <= {}", top - i), &sync, reset));
+        edges.push(guarded(&format!("{clock} > {}", top - i), &sync, reset));
+    }
+    let largest = [format!("y <= {top}"), format!("z <= {top}")].join(" && ");
+    edges.push(guarded(&largest, "out!", ""));
+    let names: Vec<String> = names.into_iter().chain(["out".to_string()]).collect();
+    text("x, y, z", &names, "L", &edges)
+}
+
 /// 128 edges with four comparisons each, filled up with spaces to 32,768 bytes. The clocks have
 /// `values` and `values` / 2 values, and there are 8 locations.
 pub fn full_of_edges(values: usize) -> Vec<u8> {

@@ -5,8 +5,7 @@ use mathlib.Core.Path.{_≡_, sym, ap, _∙_}
 use mathlib.Core.Bool.{true}
 use Rattle.limits.specs.Limits.{tick-allowed}
 use Rattle.two_texts.specs.Answers.{refused}
-use Rattle.clocks_read.specs.Laws.{measured-load, measured-states}
-use Rattle.two_texts.proofs.Paths.{answer-is, loaded-reading, tick-refused, left-too-long, right-too-long, left-refused, both-read}
+use Rattle.two_texts.proofs.Paths.{loaded-reading, tick-refused, left-too-long, right-too-long, left-refused, both-read}
 use Rattle.two_texts.proofs.load_two.Statement.{statement}
 use Rattle.two_texts.proofs.load_two.Tie as tie
 
@@ -49,27 +48,26 @@ load-right-requires : tie.Need-load-right-requires
 load-right-requires c κs =
     let told = c .before .before in
     let loads = told .before .before .before .before .before .before in
-    let short-right = loads .before .before .before .before .before in
-    let start = short-right .before .before .before .before .before .before .before .before .before .before in (
-      loaded-reading _ (start .args .left .now) _ _ (loads .judge .result) _ _
-          (loads .judge .ensures ∙ measured-load _ _ _ (start .pre .0 .left-text) _ _) (told .enum-told .given .1),
-      start .pre .0 .right-text,
-      start .pre .1 .right,
+    let start = loads .before .before .before .before .before .before .before .before .before .before .before .before
+    .before .before .before in
+    let judges = loads .judge in
+    let pre = start .pre in (
+      loaded-reading _ _ _ (pre .0 .left-text) _ _ (judges .result) _ _ (judges .ensures) (told .enum-told .given .1),
+      pre .0 .right-text,
+      pre .1 .right,
     )
 
 returns-4 : tie.Need-returns-4
 returns-4 c =
-    let marks = c .before in
-    let told = marks .before .before in
+    let told = c .before .before .before in
     let loads = told .before .before .before .before .before .before in
     let short-right = loads .before .before .before .before .before in
     let short-left = short-right .before in
     let start = short-left .before .before .before .before .before .before .before .before .before in
-    left-refused (start .args .period) (start .args .left .now) (start .args .right .now) (allowed (short-left .before))
-    (short-left .if2 .left)
-    (short-right .if3 .left) _ _ (loads .judge .result) _ _
-    (loads .judge .ensures ∙ measured-load _ _ _ (start .pre .0 .left-text) _ _) _ _ _ _ _
-    (told .answer .given .1) (marks .in-file .ensures) (c .refused4 .ensures)
+    let judges = loads .judge in
+    left-refused _ (start .args .left .now) (start .args .right .now) (allowed (short-left .before))
+    (short-left .if2 .left) (short-right .if3 .left) _ (start .pre .0 .left-text) _ _ (judges .result) _ _
+    (judges .ensures) _ _ _ _ _ (told .answer .given .1) (c .before .in-file .ensures) (c .refused4 .ensures)
 
 returns-5 : tie.Need-returns-5
 returns-5 c =
@@ -79,14 +77,10 @@ returns-5 c =
     let short-right = loads .before .before .before .before .before in
     let short-left = short-right .before in
     let start = short-left .before .before .before .before .before .before .before .before .before in
-    let text = start .args .left .now in
-    let loaded = loads .judge .ensures ∙ measured-load _ text _ (start .pre .0 .left-text) _ _ in
-    let accepted = loaded-reading _ text _ _ (loads .judge .result) _ _ loaded (told .enum-told .given .1) in
-    let states = measured-states _ text _ (start .pre .0 .left-text) (answer-is _ text _ accepted) in
-    both-read _ text (start .args .right .now) (allowed (short-left .before)) (short-left .if2 .left)
-    (short-right .if3 .left) _ _
-    (loads .judge .result) _ _ loaded _ _ _ (told .enum-told .given .1) _ states (start .pre .1 .left)
-    (ends .load-right .ensures)
+    let judges = loads .judge in
+    both-read _ (start .args .left .now) (start .args .right .now) (allowed (short-left .before))
+    (short-left .if2 .left) (short-right .if3 .left) _ (start .pre .0 .left-text) _ _ (judges .result) _ _
+    (judges .ensures) _ _ _ (told .enum-told .given .1) (start .pre .1 .left) (ends .load-right .ensures)
 
 pub load-two-spec : {M : Type 1} → statement M
 load-two-spec =

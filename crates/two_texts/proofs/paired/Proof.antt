@@ -7,47 +7,38 @@ use Rattle.two_texts.proofs.paired.Tie as tie
 
 pair-channels-requires : tie.Need-pair-channels-requires
 pair-channels-requires c κs =
-    let start = c .before .before .before .before .before in (
-      reading-formed (start .args .period) (start .args .left .now) (start .args .l) (start .pre .0),
-      reading-formed (start .args .period) (start .args .right .now) (start .args .r) (start .pre .1),
-    )
+    let pre = c .before .before .before .before .before .pre in
+    (reading-formed _ _ _ (pre .0), reading-formed _ _ _ (pre .1))
 
 add-width : tie.Need-add-width
 add-width c =
     let start = c .before .before .before .before .before .before .before .before .before .before in
-    omega (
-      arith,
-      reading-formed (start .args .period) (start .args .left .now) (start .args .l)
-          (start .pre .0) .channels,
-    )
+    omega (arith, reading-formed _ _ _ (start .pre .0) .channels)
 
 renumber-requires : tie.Need-renumber-requires
 renumber-requires c κs =
     let told = c .before .before .before in
     let pairs = told .before .before in
     let start = pairs .before .before .before .before .before .before in
-    paired-renumbers (start .args .period) (start .args .left .now) (start .args .l) (start .args .right .now)
-    (start .args .r)
+    let args = start .args in
+    paired-renumbers (args .period) (args .left .now) (args .ours) (args .right .now) (args .theirs)
     (start .pre .0) (start .pre .1) (pairs .pair-channels .result) (pairs .pair-channels .ensures)
-    (told .enum-told .given .1) (start .args .moves .now) (start .pre .2)
+    (told .enum-told .given .1) (args .moves .now) (start .pre .2)
 
 accepted-requires : tie.Need-accepted-requires
 accepted-requires c κs =
-    let later = c .before .before .before .before .before .before .before .before in
-    let start = later .before .before .before .before .before .before in (
-      reading-sized (start .args .period) (start .args .left .now) (start .args .l) (start .pre .0),
-      reading-sized (start .args .period) (start .args .right .now) (start .args .r) (start .pre .1),
-    )
+    let pre = c .before .before .before .before .before .before .before .before .before .before .before .before .before
+    .before .pre in
+    (reading-sized _ _ _ (pre .0), reading-sized _ _ _ (pre .1))
 
 returns : tie.Need-returns
 returns c =
-    let told = c .before .before in
-    let pairs = told .before .before in
+    let pairs = c .before .before .before .before in
     let start = pairs .before .before .before .before .before .before in
-    paired-refused (start .args .period) (start .args .left .now) (start .args .l) (start .args .right .now)
-    (start .args .r)
+    let args = start .args in
+    paired-refused (args .period) (args .left .now) (args .ours) (args .right .now) (args .theirs)
     (start .pre .0) (start .pre .1) (pairs .pair-channels .result) (pairs .pair-channels .ensures) _ _ _
-    (told .answer .given .1) (c .refused .ensures)
+    (c .before .before .answer .given .1) (c .refused .ensures)
 
 returns-2 : tie.Need-returns-2
 returns-2 c =
@@ -55,8 +46,8 @@ returns-2 c =
     let told = writes .before .before .before .before in
     let pairs = told .before .before in
     let start = pairs .before .before .before .before .before .before in
-    paired-accepted (start .args .period) (start .args .left .now) (start .args .l) (start .args .right .now)
-    (start .args .r)
+    let args = start .args in
+    paired-accepted (args .period) (args .left .now) (args .ours) (args .right .now) (args .theirs)
     (start .pre .0) (start .pre .1) (pairs .pair-channels .result) (pairs .pair-channels .ensures)
     (told .enum-told .given .1) _ _ _ (writes .renumber .ensures) (c .accepted .ensures)
 

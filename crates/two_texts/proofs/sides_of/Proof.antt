@@ -1,6 +1,7 @@
 -- Each number is the one that the callee promises.
 use native.Mathlib.Omega.{arith}
-use Rattle.clocks_states.specs.Laws.{start-fits, start-done}
+use Rattle.clocks_states.specs.Laws.{countable, counted, count-is}
+use Rattle.clocks_walk.specs.Start.{start-fits, start-first}
 use Rattle.two_texts.proofs.Paths.{sides-done}
 use Rattle.two_texts.proofs.sides_of.Statement.{statement}
 use Rattle.two_texts.proofs.sides_of.Tie as tie
@@ -8,26 +9,45 @@ use Rattle.two_texts.proofs.sides_of.Tie as tie
 add-steps : tie.Need-add-steps
 add-steps c = omega (arith, c .before .pre .0 .formed .channels)
 
-start-of-requires : tie.Need-start-of-requires
-start-of-requires c κs =
+state-count-of-requires : tie.Need-state-count-of-requires
+state-count-of-requires c κs =
     let left = c .before .pre .0 in
-    let fits = start-fits (c .before .args .l) (left .formed) in
-    (fits .0, fits .1, omega (arith, left .count, left .few))
+    counted (c .before .args .l) (countable (c .before .args .l) (left .formed)) _ (left .same)
 
-start-of-requires-2 : tie.Need-start-of-requires-2
-start-of-requires-2 c κs =
+state-count-of-requires-2 : tie.Need-state-count-of-requires-2
+state-count-of-requires-2 c κs =
     let right = c .before .before .pre .1 in
-    let fits = start-fits (c .before .before .args .r) (right .formed) in
-    (fits .0, fits .1, omega (arith, right .count, right .few))
+    counted (c .before .before .args .r) (countable (c .before .before .args .r) (right .formed)) _ (right .same)
+
+first-of-requires : tie.Need-first-of-requires
+first-of-requires c κs =
+    let left = c .before .before .before .pre .0 in
+    start-fits (c .before .before .before .args .l) _ (left .same) (left .formed) (left .few)
+
+first-of-requires-2 : tie.Need-first-of-requires-2
+first-of-requires-2 c κs =
+    let right = c .before .before .before .before .pre .1 in
+    start-fits (c .before .before .before .before .args .r) _ (right .same) (right .formed) (right .few)
 
 returns : tie.Need-returns
 returns c =
-    let start = c .before .before .before in
-    let left = start .pre .0 in
-    let right = start .pre .1 in
-    sides-done (start .args .l) (start .args .r) _ _ _ _ left right
-    (start-done (start .args .l) (left .formed) _ _ (left .count) (c .before .start-of .ensures))
-    (start-done (start .args .r) (right .formed) _ _ (right .count) (c .start-of2 .ensures))
+    let start = c .before .before .before .before .before in
+    let l = start .args .l in
+    let r = start .args .r in
+    let left = start .pre .0 .same in
+    let right = start .pre .1 .same in
+    sides-done l r _ _ _ _ (count-is l _ left _ (c .before .before .before .state-count-of .ensures))
+    (count-is r _ right _ (c .before .before .state-count-of2 .ensures)) (start-first l _ left _ (c .before .first-of
+    .ensures))
+    (start-first r _ right _ (c .first-of2 .ensures))
 
 pub sides-of-spec : {M : Type 1} → statement M
-sides-of-spec = tie.close (tie.spec add-steps start-of-requires start-of-requires-2 returns)
+sides-of-spec =
+    tie.close
+    (tie.spec
+    add-steps
+    state-count-of-requires
+    state-count-of-requires-2
+    first-of-requires
+    first-of-requires-2
+    returns)
