@@ -15,10 +15,9 @@ use Rattle.clocks.specs.declared.Judged.{Judged}
 use Rattle.clocks_states.specs.Parts.{Counted}
 use Rattle.clocks.specs.States.{judgement}
 use Rattle.clocks.specs.Encoding.{judged-table, judged-holds}
-use Rattle.clocks_read.specs.Laws.{measured-load, load-reading}
 use Rattle.clocks_read.specs.declared.Reading.{Reading}
 use Rattle.clocks_read.specs.declared.Measured.{Measured}
-use Rattle.clocks_read.specs.Reading.{refused, judged-reading, read-outcome}
+use Rattle.clocks_read.specs.Reading.{refused, judged-reading}
 use Rattle.clocks_read.specs.Loading.{Loading, loading, judged-loading, parsed-loading}
 use Rattle.clocks_read.specs.Measured.{Measures, measured-loading}
 

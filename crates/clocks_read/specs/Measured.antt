@@ -6,7 +6,6 @@ use Rattle.refusals.specs.declared.Verdict.the-variants as verdict
 use Rattle.reader.specs.Reading.{read-text}
 use Rattle.clocks_states.specs.Parts.{Counted}
 use Rattle.clocks_read.specs.declared.Measured.{Measured}
-use Rattle.refusals.specs.declared.Verdict.the-variants.{Accepted}
 use Rattle.clocks_read.specs.Loading.{Loading, parsed-loading}
 
 -- the ranges and the number of states are those of the text, if it is accepted

@@ -14,7 +14,7 @@ ghost use mathlib.Core.Path.{_≡_};
 ghost use lib.ListN.{length};
 ghost use Rattle.clocks.specs.States.{state-count};
 ghost use Rattle.clocks_table.specs.Room.{Room};
-ghost use Rattle.clocks_read.specs.Reading.{refused, judged-reading, read-outcome};
+ghost use Rattle.clocks_read.specs.Reading.{refused, judged-reading};
 ghost use Rattle.clocks_read.specs.Loading.{Loading};
 ghost use Rattle.clocks_read.specs.Measured.{Measures, Well-measured, measured-loading};
 ghost use Rattle.limits.specs.Limits.{move-limit, keep-limit, few-moves, few-bytes};

@@ -14,7 +14,7 @@ use Rattle.reader_formed.specs.Cases.{when-equal}
 use Rattle.bitmaps.specs.Bits.{tab-from}
 use Rattle.bitmaps.specs.BitLaws.{tab-at, length-tab, written-at, written-length}
 use Rattle.move_tables.specs.Moves.{Bounded, Encodes}
-use Rattle.clocks.specs.States.{state-count, next, input, invariants}
+use Rattle.clocks.specs.States.{state-count, next, input}
 use Rattle.clocks.specs.Contract.{signature, system}
 use Rattle.clocks.specs.Encoding.{Filled}
 use Rattle.clocks.specs.Encoded.{length-invariants, table-bounded, table-encoded, bits-bitmap, bits-start}
