@@ -57,7 +57,7 @@ enum {
     MEGZHOI_OTHER_MARK = 8,          /* (byte place, 0): of the channel's name in the later use */
     MEGZHOI_TOO_MANY_STATES = 9,     /* (states, 0) */
     MEGZHOI_INPUT_WITHOUT_MOVE = 10, /* (state, channel) */
-    MEGZHOI_TWO_EDGES = 11,          /* (state, channel) */
+    MEGZHOI_TWO_EDGES = 11,          /* (state, channel): those that lead to one state make one move */
     MEGZHOI_UNMATCHED_CHANNEL = 12,  /* (channel, 0): numbered as the marked text numbers it */
     MEGZHOI_KEEP_TOO_SHORT = 13,     /* (bytes needed, 0) */
     MEGZHOI_TABLE_TOO_SHORT = 14,    /* (bytes needed, 0) */
@@ -89,7 +89,7 @@ static inline const char *megzhoi_code_text(size_t code) {
     case MEGZHOI_OTHER_MARK: return "the channel was used with the other mark before";
     case MEGZHOI_TOO_MANY_STATES: return "the text has more than 4,096 states";
     case MEGZHOI_INPUT_WITHOUT_MOVE: return "an input has no move";
-    case MEGZHOI_TWO_EDGES: return "two edges give a move for one channel";
+    case MEGZHOI_TWO_EDGES: return "two edges give moves by one channel and lead to different states";
     case MEGZHOI_UNMATCHED_CHANNEL: return "the other text lacks the channel, or uses it in the other direction";
     case MEGZHOI_KEEP_TOO_SHORT: return "keep is too short";
     case MEGZHOI_TABLE_TOO_SHORT: return "the table to write is too short";
@@ -200,7 +200,7 @@ size_t megzhoi_widest(size_t tick_length, const uint8_t *left, size_t left_len, 
 
 /* Joins two texts with equal channels: writes one that a system satisfies exactly if it satisfies both
    (SPECIFICATION 18). Its constants are ticks, so it is to be read with tick length 1. On success *p is the number of
-   its bytes, at the front of out, and *q is 0. */
+   its bytes, at the front of out, and *q is 0. Each matching pair of edges is written, parallel ones too. */
 size_t megzhoi_join(size_t tick_length, const uint8_t *left, size_t left_len, const uint8_t *right, size_t right_len,
                     uint8_t *out, size_t out_len, size_t *file, size_t *p, size_t *q);
 

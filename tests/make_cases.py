@@ -18,20 +18,21 @@ from pathlib import Path
 
 import implementations
 import joins
+import parallel_edges
 import reference as ref
 import tick_lengths
-from texts import (OUT_OF_RANGE, POST, POSTS, SHEET, TICK, beat, bounded, clocked, counts, damaged, faults, guarded, in_milliseconds, late,
+from texts import (KINDS, OUT_OF_RANGE, POST, POSTS, SHEET, TICK, beat, bounded, clocked, counts, damaged, faults, guarded, in_milliseconds, late,
                    random_length, random_text, rows, swapped, telling_pairs)
 
 CRATES = Path(__file__).parent.parent / "crates"
 KEEP, ENTRY = 0xA5, 77  # what lent bytes and entries begin as
 WHOLE = 64  # so many items are shown whole
 MOST = dict(keep=520, room=16384, back=131072, line=131072, run=512, data=524288)  # the room that test_operations has
-BUFFER = 131072  # the bytes of stdin that test_reader, test_clocks and test_implementation read
-JOINING = dict(data=262144, slice=40000, entries=131072, run=512)  # the room that test_joining has
+BUFFER = 262144  # the bytes of stdin that test_reader, test_clocks and test_implementation read
+JOINING = dict(data=524288, slice=40000, entries=131072, run=512)  # the room that test_joining has
 LONG = ref.LIMITS["text"]
 # the posts of SPECIFICATION 16.2 to 16.6
-PAIRED = {name: text for name, text in POSTS.items() if name not in ("Loose", "Spare", "Sheet", "Joined")}
+PAIRED = {name: text for name, text in POSTS.items() if name not in ("Loose", "Spare", "Sheet", "Joined", "Twice")}
 
 
 def summed(items):
@@ -330,6 +331,44 @@ def lengths_out_of_range(cases):
             cases.call(letter, keep=70, room=70, back=70, line=70, run=70, table=b"P4\n")
 
 
+def parallel_pairs(cases):
+    """SPECIFICATION 16.10: Twice has the answers of Post, on either side. Then pairs with parallel edges, each with its run."""
+    twice = POSTS["Twice"]
+    for other in PAIRED.values():
+        for post, again in (((POST, other), (twice, other)), ((other, POST), (other, twice))):
+            before = len(cases.lines)
+            two_texts(cases, *again)
+            assert cases.lines[before:] == plain_lines(*post)
+    cases.texts(twice, twice)
+    for letter in "RS":
+        cases.call(letter)
+    for pairs in ({(s, s) for s in ref.read(TICK, twice).safe()}, {(0, 0)}):
+        cases.call("C", keep=2, table=ref.header(10, 10) + ref.raster(pairs, 10, 10))
+    for left, right, run in parallel_edges.pairs():
+        two_texts(cases, left, right)
+        departs(TICK, left, right, run)
+    for i, (left, right) in enumerate(telling_pairs(random.Random(17), wanted=dict.fromkeys(KINDS, 1))):
+        plain = plain_lines(left, right)
+        if not plain[0].startswith("D done"):
+            continue
+        before = len(cases.lines)
+        two_texts(cases, parallel_edges.repeated(left, (2, 1, 3)[i % 3]), parallel_edges.repeated(right, (1, 2, 2)[i % 3]))
+        assert cases.lines[before:] == plain  # it means the same
+    for text, line in parallel_edges.posts():  # 11 in either text
+        if line.startswith(" refused 11"):
+            cases.texts(text, POST)
+            cases.call("D", keep=2, back=100, line=100, run=3)
+            cases.texts(twice, text)
+            cases.call("W", keep=2, room=29)
+
+
+def plain_lines(left, right):
+    """The lines of the calls over two texts."""
+    cases = Cases()
+    two_texts(cases, left, right)
+    return cases.lines
+
+
 def reading_line(tick_length, text):
     """What test_clocks prints: reading, then the safe states with one byte of keep, and with 512, of which it shows seven."""
     def words(answer, done):
@@ -358,15 +397,23 @@ def known_readings():
 
 
 def strict_guards():
-    """Guards of an input: every value of x is to be met once (SPECIFICATION 6.2, 7.1); M is by constants as written (SPECIFICATION 6.4)."""
+    """Guards of an input, whose edges all lead to one state: every value of x is to be met, once or more (SPECIFICATION 6.2, 7.1, 7.2); M is
+    by constants as written (SPECIFICATION 6.4). tests/parallel_edges.py has guards that share values and lead to different states."""
     accepted = [(["x < 3", "x >= 3"], 5), (["x <= 3", "x > 3"], 5), (["x < 3", "x > 2"], 5), (["x < 3", "x == 3", "x > 3"], 5),
                 (["x < 4", "x > 3"], 6), (["x < 1", "x > 0"], 3), (["x < 1", "x >= 1 && x < 3", "x > 2"], 5), (["x < 0", ""], 2)]
+    shared = [(["x <= 3", "x > 2"], 5), (["x < 4", "x >= 3"], 6), (["x < 4", "x > 2"], 6), (["x < 3", "x >= 3", "x > 3"], 5)]
+    wholly = [(["x < 1", ""], 3), (["x > 0", ""], 2)]
     refused = [(["x < 3"], 10, 3), (["x <= 3"], 10, 4), (["x > 3"], 10, 0), (["x > 0"], 10, 0), (["x < 0"], 10, 0), (["x < 3", "x > 3"], 10, 3),
-               (["x == 3", "x > 3"], 10, 0), (["x <= 3", "x > 2"], 11, 3), (["x < 4", "x >= 3"], 11, 3), (["x < 4", "x > 2"], 11, 3),
-               (["x < 3", "x >= 3", "x > 3"], 11, 4), (["x < 3", "x <= 3"], 11, 0), (["x < 1", ""], 11, 0), (["x > 0", ""], 11, 1)]
+               (["x == 3", "x > 3"], 10, 0)]
+    unmet = [(["x < 3", "x <= 3"], 10, 4)]
     sizes = [("x < 5", 7), ("x > 5", 7), ("x < 0", 2), ("x > 0", 2), ("x < 1000", 1002), ("x > 1000", 1002), ("x <= 4 && x < 5", 7), ("x > 4 && x >= 5", 7)]
-    return [*((guarded(g), f" states {n} |") for g, n in accepted), *((guarded(g), f" refused {c} 1 {state} 1 |") for g, c, state in refused),
-            *((guarded([g], "!"), f" states {n} |") for g, n in sizes)]
+
+    def states(found, mark="?"):
+        return [(guarded(g, mark), f" states {n} |") for g, n in found]
+
+    def none(found):
+        return [(guarded(g), f" refused {c} 1 {state} 1 |") for g, c, state in found]
+    return [*states(accepted), *none(refused), *states(shared), *none(unmet), *states(wholly), *states((([g], n) for g, n in sizes), "!")]
 
 
 def strict_readings():
@@ -413,7 +460,8 @@ def case_bytes(cases):
 
 
 def readings(count=265, scaled=80, seed=3):
-    """Reading and safe states: the examples, known readings, each fault, limits, random texts; and at other tick lengths than 1."""
+    """Reading and safe states: the examples, known readings, each fault, limits, random texts; at other tick lengths than 1; parallel
+    edges."""
     rng = random.Random(seed)
     texts = [*PAIRED.values(), *(t for t, _ in known_readings() + strict_readings()), *faults().values(), *boundary_readings()]
     texts += [random_reading(rng) for _ in range(count - len(texts))]
@@ -421,6 +469,7 @@ def readings(count=265, scaled=80, seed=3):
     for _ in range(scaled):
         tick = random_length(rng)
         cases.append((tick, in_milliseconds(rng, random_reading(rng), tick)))
+    cases += [*((TICK, t) for t, _ in parallel_edges.readings()), *((tick, t) for tick, t, _ in parallel_edges.at_tick_lengths())]
     lines = [reading_line(*case) for case in cases]
     (CRATES / "test_clocks" / "stdin").write_bytes(case_bytes(cases))
     (CRATES / "test_clocks" / "stdout").write_text("\n".join(lines) + "\n")
@@ -445,7 +494,7 @@ def random_implementations(rng, each):
 
 
 def implementation_cases(seed=9, each=4):
-    """The implementation check: texts with known answers, each fault of reading, random texts; and at other tick lengths than 1.
+    """The implementation check: texts with known answers, each fault of reading, random texts; at other tick lengths than 1; parallel edges.
     A line ends with `same`: nothing that the program compares may differ."""
     known = [*((TICK, *case) for case in implementations.known()), *implementations.at_tick_lengths()]
     for tick, text, answer in known:
@@ -457,6 +506,7 @@ def implementation_cases(seed=9, each=4):
         tick = random_length(rng)
         cases.append((tick, in_milliseconds(rng, text, tick)))
         assert ref.implementation(*cases[-1]) == ref.implementation(TICK, text)
+    cases += [(TICK, text) for text, _ in parallel_edges.implementations()]
     answers = [ref.implementation(*case) for case in cases]
     lines = ["refused %d %d %d %d same" % a if a else "yes same" for a in answers]
     (CRATES / "test_implementation" / "stdin").write_bytes(case_bytes(cases))
@@ -519,6 +569,31 @@ def stated_of_joining():
     assert ref.read(TICK, POSTS["Joined"]).count == 40  # SPECIFICATION 18.10
 
 
+def stated_of_parallel_edges():
+    """What tests/parallel_edges.py knows is what the reading gives (SPECIFICATION 16.10, 18.4)."""
+    for tick, text, line in [*((TICK, *case) for case in parallel_edges.readings()), *parallel_edges.at_tick_lengths()]:
+        assert reading_line(tick, text).startswith(line), (tick, text, line, reading_line(tick, text))
+    for text, answer in parallel_edges.implementations():
+        assert ref.implementation(TICK, text) == answer, (text, answer, ref.implementation(TICK, text))
+    for tick, left, right, text in parallel_edges.written():
+        assert joined(tick, left, right) == text, (text, joined(tick, left, right))
+    for left, right, states in parallel_edges.read_again():
+        assert ref.read(TICK, joined(TICK, left, right)).count == states, (left, right, states)
+    for left, right, fits in parallel_edges.at_limits():
+        assert (joined(TICK, left, right) != (25, 0, 0, 0)) == fits, (left, right, fits)
+    for left, right, is_met in parallel_edges.together():
+        assert ref.safe_states(TICK, joined(TICK, left, right), bytes(512))[0][1] == is_met, (left, right, is_met)
+    for left, right, answer in parallel_edges.refused():
+        assert joined(TICK, left, right) == answer, (left, right, answer, joined(TICK, left, right))
+    twice = ref.read(TICK, joined(TICK, POSTS["Twice"], POSTS["Twice"]))
+    assert len(twice.led_to(0, (0, 0), 1)) == 4 and len(twice.moves(0, (0, 0), 1)) == 1
+    post, table = ref.read(TICK, POST), ref.widest(TICK, POST, POST, bytes(512), bytes(29))
+    for left, right in (("Twice", "Post"), ("Post", "Twice"), ("Twice", "Twice")):
+        assert ref.widest(TICK, POSTS[left], POSTS[right], bytes(512), bytes(29)) == table
+    again = ref.read(TICK, POSTS["Twice"])
+    assert again.count == 10 and all(post.next(s, c) == again.next(s, c) for s in range(10) for c in range(4))
+
+
 def reads_back(tick_length, left, right):
     """25 comes exactly where reading the joined text finds a limit passed, else it is accepted (SPECIFICATION 18.8)."""
     try:
@@ -533,6 +608,7 @@ def reads_back(tick_length, left, right):
         assert joined(tick_length, left, right) == (25, 0, 0, 0)
         return
     assert found == made.states() and joined(tick_length, left, right) == made.text()
+    assert ref.read(TICK, made.text()).has_parallel() == made.two.joins_parallel()
 
 
 def random_joins(rng, count):
@@ -560,7 +636,10 @@ def joining_cases(seed=13, count=36):
              *((TICK, left, right) for left, right, _ in joins.underscored() + joins.at_limits() + joins.together()),
              *((tick, left, right) for tick, left, right, _, _ in joins.at_tick_lengths()),
              *((tick, left, right) for tick, left, right, _ in joins.refused()),
-             *random_joins(random.Random(seed), count)]
+             *random_joins(random.Random(seed), count),
+             *((tick, left, right) for tick, left, right, _ in parallel_edges.written()),
+             *((TICK, left, right) for left, right, _ in parallel_edges.read_again() + parallel_edges.at_limits() + parallel_edges.together()),
+             *((TICK, left, right) for left, right, _ in parallel_edges.refused())]
     cases = []
     for i, pair in enumerate(pairs):
         reads_back(*pair)
@@ -627,10 +706,12 @@ def records():
 
 def uncapped(seed=5, texts=200, steps=40):
     """Capping does not matter (SPECIFICATION 6.6): along random runs, clocks that are never capped have the moves of their states.
-    These are reachable, and a text that is an implementation has an output or a tick in each of them, never both (SPECIFICATION 8.5, 8.6)."""
+    These are reachable, and a text that is an implementation has an output or a tick in each of them, never both (SPECIFICATION 8.5, 8.6).
+    Every edge is there once, twice or three times: the same edges give moves, and they lead to one configuration (SPECIFICATION 17.12)."""
     rng = random.Random(seed)
-    for _ in range(texts):
+    for i in range(texts):
         text = random_text(rng, [("a", "?"), ("b", "!")], ["x", "y", "z"][:rng.randrange(4)], 2)
+        text = parallel_edges.repeated(text, i % 3 + 1)
         try:
             t = ref.Text(TICK, text)
         except ref.Refused:
@@ -638,14 +719,18 @@ def uncapped(seed=5, texts=200, steps=40):
         config, reachable, is_implementation = (t.init, (0,) * len(t.clocks)), t.reachable(), not ref.implementation(TICK, text)
         for _ in range(steps):
             moves = {c: t.step(config, c) for c in range(3)}
-            assert t.number(*config) in reachable
+            state = t.number(*config)
+            assert state in reachable
+            for c in (1, 2):
+                to, capped = t.led_to(*config, c), t.led_to(*t.configs[state], c)
+                assert [t.number(*at) for at in to] == [t.number(*at) for at in capped] and len(set(to)) == len(set(capped)) == min(1, len(to))
             assert not is_implementation or (moves[0] is None) != (t.is_input(2) or moves[2] is None)
-            assert all(t.next(t.number(*config), c) == (None if m is None else t.number(*m)) for c, m in moves.items())
+            assert all(t.next(state, c) == (None if m is None else t.number(*m)) for c, m in moves.items())
             config = rng.choice([m for m in moves.values() if m is not None] or [(t.init, (0,) * len(t.clocks))])
 
 
 def stated():
-    """What SPECIFICATION 16.2 to 16.9 states of the posts is what this reading gives."""
+    """What SPECIFICATION 16.2 to 16.10 states of the posts is what this reading gives."""
     P, big, run = POSTS, bytes(512), [0] * 9
     for name, states, safe in (("Post", 10, (9, 1)), ("Hush", 10, (5, 0)), ("Strict", 12, (10, 1))):
         assert ref.read(TICK, P[name]).count == states and ref.safe_states(TICK, P[name], big)[0] == safe
@@ -666,6 +751,7 @@ def stated():
         assert ref.implementation(TICK, text) == answer, (text, ref.implementation(TICK, text))
     assert ref.read(TICK, P["Spare"]).count == 15 and 10 not in ref.read(TICK, P["Spare"]).reachable()
     stated_of_sheet()
+    stated_of_parallel_edges()
     for tick, text, line in [*((TICK, *case) for case in known_readings() + strict_readings()), *tick_lengths.readings()]:
         assert reading_line(tick, text).startswith(line), (tick, text, line, reading_line(tick, text))
 
@@ -692,6 +778,7 @@ def operations():
     lengths_out_of_range(cases)
     many_states(cases)
     random_pairs(cases, 1)
+    parallel_pairs(cases)
     missing = every_code() - cases.codes
     assert not missing and not cases.codes - every_code(), (missing, cases.codes - every_code())
     cases.write()

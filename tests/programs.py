@@ -4,9 +4,9 @@
 `megzhoi`, `widest` and `join` read left.xta and right.xta, `recheck` table.pbm too, and `implementation` left.xta
 alone; each pair gets all five, `recheck` with the table that `widest` must have made, with damaged ones and with none.
 The pairs are the examples, texts with one fault each, texts at each limit (SPECIFICATION 4.3), texts with strict signs,
-files that are missing, too long or no files, and random texts (seeded). `join` also gets pairs whose joined text is at
-a limit or has names that need underscores (tests/joins.py). The programs read with tick length 1 (SPECIFICATION 14.1,
-14.5, 14.7, 14.8).
+files that are missing, too long or no files, texts with parallel edges (tests/parallel_edges.py), and random texts
+(seeded). `join` also gets pairs whose joined text is at a limit or has names that need underscores (tests/joins.py).
+The programs read with tick length 1 (SPECIFICATION 14.1, 14.5, 14.7, 14.8).
 `implementation` is also run with no file but left.xta, on texts with a known answer (tests/implementations.py).
 Run it at the repository's root, with the programs in target/bin; the exit status is 0 when nothing differs.
 """
@@ -19,6 +19,7 @@ from collections import Counter
 
 import implementations
 import joins
+import parallel_edges
 import reference as ref
 from texts import (POST, POSTS, TICK, beat, clocked, counts, faults, is_small, late, long_edges, random_pair, rows, swapped, telling_pairs, wide)
 
@@ -89,6 +90,12 @@ def large_tables():
     return [(late(148), late(148)), (rows(2, 200), rows(1, 400)), (clocked((5, 5, 5), (0,)), clocked((5, 5, 5), (0,)))]
 
 
+def parallel_pairs():
+    """Pairs with parallel edges on either side or on both, and texts whose edges lead to different states, on either side."""
+    lead = [text for text, _ in parallel_edges.posts() + parallel_edges.orders_of_faults()]
+    return [*(pair[:2] for pair in parallel_edges.pairs()), *(pair for text in lead for pair in ((text, POST), (POSTS["Twice"], text)))]
+
+
 def random_pairs(count, seed):
     rng, pairs = random.Random(seed), []
     while len(pairs) < count:
@@ -106,6 +113,7 @@ def all_pairs():
             ("faults", [pair for t in bad.values() for pair in ((t, POST), (POST, t), (t, bad[2]))]),
             ("channels", [pair for t in channels for pair in ((t, POST), (POST, t), (POSTS["Rearm"], t), (t, POSTS["Hush"]))]),
             ("files", in_files()), ("limits", at_limits()), ("pairs", at_pairs()), ("strict", strict_pairs()), ("tables", large_tables()),
+            ("parallel", parallel_pairs()),
             ("random", random_pairs(150, 7)), ("telling", telling_pairs(random.Random(8)))]
 
 
@@ -200,14 +208,16 @@ def known_answers(runner):
     """Texts with a known answer, in a folder that has nothing but left.xta."""
     for name in ("right.xta", "table.pbm"):
         runner.put(name, None)
-    for i, (text, answer) in enumerate(implementations.known()):
+    for i, (text, answer) in enumerate(implementations.known() + parallel_edges.implementations()):
         assert ref.implementation(TICK, text) == answer
         runner.one(runner.put("left.xta", text), f"known {i}")
 
 
 def pairs_to_join(runner):
     """Pairs with known answers, in a folder that has no table."""
-    pairs = [pair[:2] for pair in joins.underscored() + joins.at_limits() + joins.together()]
+    found = joins.underscored() + joins.at_limits() + joins.together()
+    found += parallel_edges.read_again() + parallel_edges.at_limits() + parallel_edges.together()
+    pairs = [pair[:2] for pair in found]
     for i, (left, right) in enumerate(pairs):
         runner.join(runner.put("left.xta", left), runner.put("right.xta", right), f"to join {i}")
 

@@ -73,6 +73,15 @@ class Lengths:
         self.table = length(seed, TABLE, self.table_needed, TABLE_BYTES)
 
 
+def count_parallel(period, left, right, tally):
+    """Two texts with a safe left start that both have parallel edges."""
+    try:
+        two = reference.both(period, left, right)
+    except reference.Refused:
+        return
+    tally["parallel pairs"] += int(two.left.start in two.safe and two.left.has_parallel() and two.right.has_parallel())
+
+
 def search_case(period, left, right, z, tally):
     answer, _, _ = reference.search(period, left, right, bytes(z.keep), z.back, z.line, [0] * z.run)
     tally.call(answer)
@@ -122,6 +131,7 @@ def lent_cases(period, left, right, seed, tally):
         tally["left out"] += 1
         return
     z = Lengths(n, m, seed)
+    count_parallel(period, left, right, tally)
     search_case(period, left, right, z, tally)
     widest_case(period, left, right, z, tally)
     check_cases(period, left, right, n, m, seed, tally)
@@ -133,6 +143,7 @@ def join_cases(period, left, right, tally):
     tally.call(answer)
     if len(answer) == 1:
         tally["joined"] += 1
+        tally["parallel joined"] += int(reference.both(period, left, right).joins_parallel())
         for n in (answer[0], answer[0] - 1):
             tally.call(reference.join(period, left, right, bytes(n))[0])
 
@@ -157,6 +168,7 @@ def long_cases(period, text, seed, tally):
 def read_cases(period, g, pen, text, tally):
     answer = read(period, text)
     tally.call(answer if isinstance(answer, tuple) else ())
+    tally["parallel"] += int(not isinstance(answer, tuple) and answer.has_parallel())
     if not is_damaged(g) and g.period != 1 and pen.code == 0 and Pen(in_ticks(g)).code == 0:
         tally["rounded"] += 1
 
@@ -187,7 +199,8 @@ def one_case(i, tally):
 
 
 def line(tally):
-    names = ("departures", "none", "start pairs", "implementations", "rounded", "joined", "left out")
+    names = ("departures", "none", "start pairs", "implementations", "rounded", "joined", "parallel", "parallel pairs", "parallel joined",
+             "left out")
     counts = [f"{name} {tally[name]}" for name in names]
     codes = " ".join(f"{code}:{tally[code]}" for code in range(1, 27))
     return ", ".join(["differences 0", *counts, f"accepted {tally[0]}", f"refused {codes}"])

@@ -19,12 +19,15 @@ LARGE_CONSTANTS, MANY = 30, 200
 # what is chosen
 TARGETS, RESETS, ALL_RESETS, CLOCKS, BOUNDS, SIGNS, STRICTS = 8, 16, 24, 32, 40, 48, 56
 (COUNTS, GROUPS, STARTS, WHITES, BLANKS, STRAYS, LETTERS, EXCESSES, WIDTHS, PLACES, BYTES, CONSTANTS, CHANNELS, LOCATIONS, TURNS, CHANGE,
- PARTS, ROUNDINGS, PERIODS) = range(64, 83)
+ PARTS, ROUNDINGS, PERIODS, DOUBLING, DOUBLES, ORIGINALS, ORDERS, OPEN_DOUBLES) = range(64, 88)
+KINDS, ADDED_CLOCKS, ADDED_SIGNS, ADDED_BOUNDS = 88, 96, 104, 112
 FEW, LARGE_ODDS = 4, 16
 INVARIANT = CHANNELS_MOST + 1
 NO_SIGN, AT_MOST, AT_LEAST, EQUAL, LESS, GREATER, SIGN_COUNT = range(7)
 SPELLED = {AT_MOST: "<=~", AT_LEAST: ">=~", EQUAL: "==~", LESS: "<~", GREATER: ">~"}
-GROUP_EDGES, EVERY_CLOCK = 4, 7
+# the kinds of edges that are written again
+SAME_EDGE, NARROWER, OTHER_RESET, ELSEWHERE, EDGE_KINDS = range(5)
+EVERY_CLOCK = 7
 WORD = 0xFFFFFFFF
 
 
@@ -140,14 +143,51 @@ class Shape:
             return self.strict_or(l, c, j, LESS, AT_MOST)
         return self.strict_or(l, c, j, GREATER, AT_LEAST) if j + 1 == n else EQUAL
 
-    def comparison_count(self, l, c, j):
-        if c == INVARIANT:
-            return self.invariant_count(l)
+    def guard_count(self, l, c, j):
         if self.sign_of(l, c, j) == NO_SIGN:
             return 0
         if self.change_at(l, c) == LONG_GUARD:
             return COMPARISONS_MOST + self.excess()
         return 2 if self.choice(COUNTS, l, c, 4) == 0 else 1
+
+    def extra_edges(self, l, c):
+        """The edges beside those of a group, each like one of them."""
+        change = self.change_at(l, c)
+        if change == DROPPED_EDGE or self.group_size(l, c) == 0:
+            return 0
+        if change == DOUBLED_EDGE:
+            return self.excess() + 1
+        return (1, 1, 2, 0, 0, 0, 0, 0)[pick(self.gap, DOUBLES, l, c, 8)] if pick(self.gap, DOUBLING, 0, 0, 2) == 0 else 0
+
+    def original(self, l, c, j):
+        n = self.group_size(l, c)
+        return j if j < n else pick(self.gap, ORIGINALS, l, c, n)
+
+    def is_open(self, l, c):
+        """Whether the edges beside a group have no comparison that keeps them to what the group says."""
+        return self.change_at(l, c) == DOUBLED_EDGE or pick(self.gap, OPEN_DOUBLES, l, c, 12) == 0
+
+    def kind_of(self, l, c, j):
+        n = self.group_size(l, c)
+        has_room = self.clocks() and self.guard_count(l, c, self.original(l, c, j)) < COMPARISONS_MOST
+        return SAME_EDGE if j < n or not (self.is_open(l, c) or has_room) else pick(self.gap, KINDS + j - n, l, c, EDGE_KINDS)
+
+    def is_guarded_more(self, l, c, j):
+        return c != INVARIANT and not self.is_open(l, c) and self.kind_of(l, c, j) != SAME_EDGE
+
+    def comparison_count(self, l, c, j):
+        return self.invariant_count(l) if c == INVARIANT else self.guard_count(l, c, self.original(l, c, j)) + int(self.is_guarded_more(l, c, j))
+
+    def own_choice(self, what, l, c, j, n):
+        return pick(self.gap, what + j - self.group_size(l, c), l, c, n)
+
+    def added(self, l, c, j):
+        """Clock, sign and bound of the comparison that is added to an edge that is written again."""
+        kind, clock = self.kind_of(l, c, j), self.own_choice(ADDED_CLOCKS, l, c, j, self.clocks())
+        if kind == NARROWER:
+            sign = self.own_choice(ADDED_SIGNS, l, c, j, SIGN_COUNT - 1) + 1
+            return clock, sign, self.own_choice(ADDED_BOUNDS, l, c, j, self.constants())
+        return clock, (AT_MOST, EQUAL)[self.own_choice(ADDED_SIGNS, l, c, j, 2)] if kind == OTHER_RESET else LESS, 0
 
     def sign_at(self, l, c, j, i):
         if c == INVARIANT:
@@ -183,26 +223,34 @@ class Shape:
         return (pick(self.gap, TURNS, 0, 0, n) + i) % n if n else 0
 
     def written_edges(self, l, c):
-        n, change = self.group_size(l, c), self.change_at(l, c)
-        if change == DROPPED_EDGE and n:
-            return n - 1
-        return n + int(change == DOUBLED_EDGE)
+        n = self.group_size(l, c)
+        return n - 1 if self.change_at(l, c) == DROPPED_EDGE and n else n + self.extra_edges(l, c)
 
-    def target_of(self, l, c, j):
+    def edge_of(self, l, c, i):
+        n = self.written_edges(l, c)
+        return (i + pick(self.gap, ORDERS, l, c, n)) % n if self.extra_edges(l, c) else i
+
+    def own_target(self, l, c, j):
         n = self.locations()
         t, change = self.choice(TARGETS + j, l, c, n), self.change_at(l, c)
-        if change == OTHER_NAME:
-            return n
-        return t if change != OTHER_TARGET else t + 1 if t + 1 < n else 0
+        return n if change == OTHER_NAME else (t + 1) % n if change == OTHER_TARGET else t
 
-    def resets_of(self, l, c, j):
+    def target_of(self, l, c, j):
+        n, t = self.locations(), self.own_target(l, c, self.original(l, c, j))
+        return (t + 1) % n if self.kind_of(l, c, j) == ELSEWHERE and t < n else t
+
+    def own_resets(self, l, c, j):
         r = self.choice(RESETS + j, l, c, EVERY_CLOCK + 1)
         if self.change_at(l, c) == OTHER_RESETS:
             return r ^ EVERY_CLOCK
-        t = self.target_of(l, c, j)
+        t = self.own_target(l, c, j)
         if t == l or self.invariant_count(t) == 0 or self.choice(ALL_RESETS + j, l, c, 24) == 0:
             return r
         return EVERY_CLOCK
+
+    def resets_of(self, l, c, j):
+        r = self.own_resets(l, c, self.original(l, c, j))
+        return r ^ 1 << self.own_choice(ADDED_CLOCKS, l, c, j, self.clocks()) if self.kind_of(l, c, j) == OTHER_RESET else r
 
     def is_input(self, l, c):
         is_other = self.change == OTHER_MARK and self.is_about(c) or self.change_at(l, c) == ONE_MARK
@@ -224,8 +272,8 @@ class Pen:
         at = self.at
         for l in range(g.locations()):
             for c in range(g.channels()):
-                for j in range(g.written_edges(l, c)):
-                    self.edge(l, c, 0 if g.group_size(l, c) <= j else j)
+                for i in range(g.written_edges(l, c)):
+                    self.edge(l, c, g.edge_of(l, c, i))
         self.after(at, "~;~")
         self.words("}~system P~;")
         self.blanks(0)
@@ -306,8 +354,12 @@ class Pen:
 
     def comparison(self, l, c, j, i):
         g = self.g
-        s, n = g.sign_at(l, c, j, i), g.written_bound(l, c, j, i)
-        self.clock(g.choice(CLOCKS + i, l, c, g.clocks()))
+        if g.is_guarded_more(l, c, j) and i == g.guard_count(l, c, g.original(l, c, j)):
+            k, s, n = g.added(l, c, j)
+        else:
+            j = g.original(l, c, j)
+            k, s, n = g.choice(CLOCKS + i, l, c, g.clocks()), g.sign_at(l, c, j, i), g.written_bound(l, c, j, i)
+        self.clock(k)
         self.words("~")
         if c == INVARIANT and s not in (AT_MOST, LESS):
             self.noted(MISFIT)

@@ -197,6 +197,14 @@ def counts(left, right, tick_length=TICK):
         return None
 
 
+def has_parallel(left, right):
+    """Whether two accepted texts have equal channels and one of them has parallel edges."""
+    if counts(left, right) is None:
+        return False
+    two = ref.both(TICK, left, right)
+    return two.left.has_parallel() or two.right.has_parallel()
+
+
 def is_small(left, right, most=3000):
     found = counts(left, right)
     return found is None or found[0] * found[1] <= most
@@ -265,11 +273,11 @@ KINDS = {"refused": 6, "start": 4, "three clocks": 14, "order": 14, "long": 12, 
 
 
 def telling_pairs(rng, most=1500, wanted=KINDS):
-    """Random pairs, so many at least of each kind."""
+    """Random pairs, so many at least of each kind; those with parallel edges are in tests/parallel_edges.py."""
     wanted, pairs = dict(wanted), []
     while any(n > 0 for n in wanted.values()):
         pair = random_pair(rng)
-        if not is_small(*pair, most=most):
+        if not is_small(*pair, most=most) or has_parallel(*pair):
             continue
         kinds = kinds_of(*pair)
         if any(wanted[kind] > 0 for kind in kinds):

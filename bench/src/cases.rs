@@ -1,14 +1,14 @@
 //! The tables by size: every operation on texts that grow, the library beside plain Rust and, where it is given, beside
 //! an older build.
 
-use crate::contenders::{contenders, with_implementation, with_join, Calls, Contender, PLAIN};
+use crate::contenders::{contenders, with_implementation, with_join, with_parallel_edges, Calls, Contender, PLAIN};
 use crate::operations::{check, implementation, join, reached, read, safe_states, search, states, widest};
 use crate::operations::{Operation, Texts};
 use boundary::{ByPairs, Returned};
 use plain::codes::{LIMIT_EXCEEDED, OUTPUT_BESIDE_TICK};
 use std::rc::Rc;
-use texts::{at_single_values, chain, drifting, early, full_of_edges, full_of_tokens, of_joined_length, passive};
-use texts::{post, relay, scaled_post, short_rows, Kind, Reach};
+use texts::{at_single_values, chain, drifting, each_edge_twice, early, full_of_edges, full_of_tokens};
+use texts::{of_joined_length, passive, post, relay, scaled_post, short_rows, twice, Kind, Reach};
 
 pub struct Table {
     pub title: &'static str,
@@ -27,6 +27,8 @@ pub struct Case {
     pub name: String,
     /// What every contender has to return: 0, or the code of a refusal.
     code: usize,
+    /// Whether a text has parallel edges: those that refuse them are left out.
+    parallel: bool,
     texts: Box<dyn Fn() -> Texts>,
 }
 
@@ -49,12 +51,12 @@ pub fn tables() -> Vec<Table> {
         let contenders = contenders.clone();
         Table { title, unit, contenders, groups, operation, units }
     };
-    let refining = || [drifting_groups(&[Kind::Refining]), vec![posts()]].into_iter().flatten().collect();
+    let refining = || groups(vec![drifting_groups(&[Kind::Refining]), doubled(), vec![posts()]]);
     let (judging, joining) = (with_implementation(&contenders), with_join(&contenders));
     let of_left: fn(&Texts, Returned) -> usize = |(left, _), _| states(left);
-    let all = [drifting_groups(&KINDS), vec![posts(), chains()]].into_iter().flatten().collect();
+    let all = groups(vec![drifting_groups(&KINDS), doubled(), vec![posts(), chains()]]);
     vec![
-        table("Search", "pair", drifting_groups(&KINDS), search, |texts, _| reached(texts)),
+        table("Search", "pair", groups(vec![drifting_groups(&KINDS), doubled()]), search, |texts, _| reached(texts)),
         table("Widest table", "pair", all, widest, |(left, right), _| states(left) * states(right)),
         table("Check of the widest table", "pair", refining(), check, |_, returned| returned.p),
         table("Safe states", "state", of_the_left(refining()), safe_states, of_left),
@@ -65,17 +67,53 @@ pub fn tables() -> Vec<Table> {
 }
 
 impl Table {
-    /// Compares the contenders; gives the number of units and a call for each contender.
-    pub fn make(&self, case: &Case) -> (usize, Calls) {
+    /// Those that take the texts of a case.
+    pub fn contenders(&self, case: &Case) -> Vec<Contender> {
+        match case.parallel {
+            true => with_parallel_edges(&self.contenders),
+            false => self.contenders.clone(),
+        }
+    }
+
+    /// Compares contenders; gives the number of units and a call for each contender.
+    pub fn make(&self, case: &Case, contenders: &[Contender]) -> (usize, Calls) {
         let texts = Rc::new((case.texts)());
-        let (returned, calls) = (self.operation)(&self.contenders, texts.clone());
+        let (returned, calls) = (self.operation)(contenders, texts.clone());
         assert_eq!(returned.code, case.code, "{} is answered otherwise", case.name);
         ((self.units)(&texts, returned), calls)
     }
 }
 
 fn case(name: String, texts: impl Fn() -> Texts + 'static) -> Case {
-    Case { name, code: 0, texts: Box::new(texts) }
+    Case { name, code: 0, parallel: false, texts: Box::new(texts) }
+}
+
+/// The same with each edge of both texts twice.
+fn in_double(case: Case) -> Case {
+    let Case { name, texts, .. } = case;
+    let texts = move || {
+        let (left, right) = texts();
+        (doubled_text(&left), doubled_text(&right))
+    };
+    Case { name: format!("{name}, each edge twice"), parallel: true, texts: Box::new(texts), ..case }
+}
+
+/// A text that is not there, where an operation takes one only, stays so.
+fn doubled_text(text: &[u8]) -> Vec<u8> {
+    match text.is_empty() {
+        true => Vec::new(),
+        false => each_edge_twice(text).expect("room for as many edges again"),
+    }
+}
+
+fn groups(parts: Vec<Vec<Vec<Case>>>) -> Vec<Vec<Case>> {
+    parts.into_iter().flatten().collect()
+}
+
+/// The refining texts with each edge twice: their moves are the same, so what is dearer is the doubled edge.
+fn doubled() -> Vec<Vec<Case>> {
+    let groups = drifting_groups(&[Kind::Refining]).into_iter();
+    groups.map(|group| group.into_iter().map(in_double).collect()).collect()
 }
 
 fn drifting_groups(kinds: &[Kind]) -> Vec<Vec<Case>> {
@@ -128,24 +166,42 @@ fn implementations() -> Vec<Vec<Case>> {
             Vec::from(sized)
         }));
     }
+    for channels in CHANNELS {
+        let sized = SIZES.map(|values| {
+            let name = format!("{} states, {channels} channels, all reached", values * values);
+            in_double(case(name, move || (passive(values, channels, Reach::All), Vec::new())))
+        });
+        groups.push(Vec::from(sized));
+    }
     let relay_of =
         |values| case(format!("{} states, one after another", 32 * values), move || (relay(values), Vec::new()));
     groups.extend(of_the_left(vec![posts(), Vec::from(OF_32_LOCATIONS.map(relay_of))]));
     groups
 }
 
+/// A text for an operation on one.
+type OneText = (&'static str, fn() -> Vec<u8>);
+
+/// Texts with at most half of the edges that there can be, which are read with each edge twice too.
+const READ_TWICE: [OneText; 5] = [
+    ("4 channels, 4,096 states", || drifting(64, 4, Kind::Refining).0),
+    ("16 channels, 4,096 states", || drifting(64, 16, Kind::Refining).0),
+    ("4 channels, 4,050 states in rows of 2", || short_rows(45, 3)),
+    ("16 channels, 4,050 states in rows of 2", || short_rows(45, 15)),
+    ("64 edges, 4,096 states", || full_of_edges(32, 8).trim_ascii_end().to_vec()),
+];
+
 fn reading() -> Vec<Vec<Case>> {
-    let texts: [(&str, fn() -> Vec<u8>); 8] = [
-        ("Post", post),
-        ("4 channels, 4,096 states", || drifting(64, 4, Kind::Refining).0),
-        ("16 channels, 4,096 states", || drifting(64, 16, Kind::Refining).0),
-        ("4 channels, 4,050 states in rows of 2", || short_rows(45, 3)),
-        ("16 channels, 4,050 states in rows of 2", || short_rows(45, 15)),
-        ("128 edges, 4,096 states, 32,768 bytes", || full_of_edges(32)),
-        ("128 edges, 256 states, 32,768 bytes", || full_of_edges(8)),
+    let more: [OneText; 3] = [
+        ("128 edges, 4,096 states, 32,768 bytes", || full_of_edges(32, 16)),
+        ("128 edges, 256 states, 32,768 bytes", || full_of_edges(8, 16)),
         ("as many tokens as possible, 32,768 bytes", full_of_tokens),
     ];
-    texts.into_iter().map(|(name, text)| vec![case(name.to_string(), move || (text(), Vec::new()))]).collect()
+    let one = |(name, text): OneText| case(name.to_string(), move || (text(), Vec::new()));
+    let posts = [one(("Post", post)), Case { parallel: true, ..one(("Twice", twice)) }];
+    let texts = READ_TWICE.into_iter().chain(more).map(one);
+    let doubled = READ_TWICE.into_iter().map(|given| in_double(one(given)));
+    posts.into_iter().chain(texts).chain(doubled).map(|case| vec![case]).collect()
 }
 
 /// Bytes of the two texts and of the joined one.
@@ -153,18 +209,27 @@ fn read_and_written((left, right): &Texts, returned: Returned) -> usize {
     left.len() + right.len() + returned.p
 }
 
+/// Two texts to be joined.
+type TwoTexts = (&'static str, fn() -> Texts);
+
+/// Small pairs, which are joined with each edge twice too: in place of each joined edge there are four.
+const JOINED_TWICE: [TwoTexts; 2] = [
+    ("Post and Early", || (post(), early())),
+    ("25 joined edges at single values", || (at_single_values(5), at_single_values(5))),
+];
+
 /// Small pairs and large ones: much to read, much to write, and as many pairs of edges as there can be.
 fn joined() -> Vec<Vec<Case>> {
-    let texts: [(&str, fn() -> Texts); 6] = [
-        ("Post and Early", || (post(), early())),
+    let more: [TwoTexts; 4] = [
         ("larger post of 100 states and Post", || (scaled_post(10), post())),
         ("121 joined edges at single values", || (at_single_values(11), at_single_values(11))),
         ("32 locations, 128 edges, 32,768 bytes written", || of_joined_length(plain::TEXT_LIMIT)),
         ("as many tokens as possible, 65,536 bytes read", || (full_of_tokens(), full_of_tokens())),
-        ("128 × 128 edges, which are too many", || (at_single_values(128), at_single_values(128))),
     ];
-    let one = |(name, texts): (&str, fn() -> Texts)| case(name.to_string(), texts);
-    let mut groups: Vec<Vec<Case>> = texts.into_iter().map(|given| vec![one(given)]).collect();
-    groups.iter_mut().flatten().last().expect("a case").code = LIMIT_EXCEEDED;
-    groups
+    let one = |(name, texts): TwoTexts| case(name.to_string(), texts);
+    let too_many = one(("128 × 128 edges, which are too many", || (at_single_values(128), at_single_values(128))));
+    let too_many = Case { code: LIMIT_EXCEEDED, ..too_many };
+    let texts = JOINED_TWICE.into_iter().chain(more).map(one);
+    let doubled = JOINED_TWICE.into_iter().map(|given| in_double(one(given)));
+    texts.chain([too_many]).chain(doubled).map(|case| vec![case]).collect()
 }

@@ -22,7 +22,7 @@ pub fn contenders(others: &[(&'static str, Rc<dyn Operations>)]) -> Vec<Contende
     before.into_iter().chain([after]).chain(others).collect()
 }
 
-/// Those that have an operation, by what a call of it gives: an older build may lack it.
+/// Those that have an operation, or answer a call as is asked, by what it gives: an older build may not.
 fn having(contenders: &[Contender], call: impl Fn(&dyn Operations) -> Option<Returned>) -> Vec<Contender> {
     contenders.iter().filter(|contender| call(&*contender.operations).is_some()).cloned().collect()
 }
@@ -35,6 +35,11 @@ pub fn with_implementation(contenders: &[Contender]) -> Vec<Contender> {
 /// Those that join texts.
 pub fn with_join(contenders: &[Contender]) -> Vec<Contender> {
     having(contenders, |operations| operations.join(TICK, &[], &[], &mut []))
+}
+
+/// Those that take texts with parallel edges: an older build may refuse them (SPECIFICATION 7.2).
+pub fn with_parallel_edges(contenders: &[Contender]) -> Vec<Contender> {
+    having(contenders, |operations| Some(operations.read(TICK, &texts::twice(), &mut [])).filter(|read| read.code == 0))
 }
 
 /// Where the contender of a name stands, if it is there.

@@ -1,19 +1,21 @@
 //! The tables by kind: the operations on two texts, on pairs of texts by kind. Beside the builds of the library stands
 //! plain Rust by pairs and by rows.
 
-use crate::contenders::{contenders, Calls, Contender, PLAIN};
+use crate::contenders::{contenders, with_parallel_edges, Calls, Contender, PLAIN};
 use crate::operations::{check, search, states, widest, Operation, Texts};
 use boundary::{ByPairs, ByRows, Returned};
 use std::rc::Rc;
+use texts::each_edge_twice;
 use texts::kinds::{departing, texts, Kind, CHANNELS, KINDS};
 
 const BY_PAIRS: &str = "plain by pairs";
 const BY_ROWS: &str = "plain by rows";
 
-/// A pair of texts to be timed, with its answer in words and a call for each contender.
+/// A pair of texts to be timed, with its answer in words and a call for each contender that takes the texts.
 pub struct Case {
     pub name: String,
     pub answer: String,
+    pub contenders: Vec<Contender>,
     pub calls: Calls,
 }
 
@@ -35,8 +37,33 @@ struct Input {
     kind: Kind,
     states: usize,
     clocks: usize,
-    departs: bool,
+    form: Form,
 }
+
+#[derive(Clone, Copy, PartialEq, Eq)]
+enum Form {
+    AsItIs,
+    /// With an output that the right lacks.
+    Departing,
+    /// With fewer channels, so that there can be as many edges again.
+    Fewer,
+    /// The same with each edge twice.
+    Twice,
+}
+
+impl Form {
+    fn channels(self) -> usize {
+        match self {
+            Form::AsItIs | Form::Departing => CHANNELS,
+            Form::Fewer | Form::Twice => CHANNELS - 1,
+        }
+    }
+}
+
+/// The kinds whose texts have at most half of the edges that there can be, with one channel fewer.
+const DOUBLED: [Kind; 3] = [Kind::Full, Kind::Late, Kind::Same];
+/// The number of clocks of those.
+const DOUBLED_CLOCKS: usize = 2;
 
 const SIZES: [usize; 3] = [100, 1_000, 4_096];
 const CLOCKS: [usize; 3] = [1, 2, 3];
@@ -45,7 +72,7 @@ pub fn tables() -> Vec<Table> {
     let of_tables = contenders(&[(BY_PAIRS, Rc::new(ByPairs)), (BY_ROWS, Rc::new(ByRows))]);
     let of_search = contenders(&[(PLAIN, Rc::new(ByPairs))]);
     let table = |title, operation| {
-        let (contenders, inputs) = (of_tables.clone(), inputs(&[false]));
+        let (contenders, inputs) = (of_tables.clone(), inputs(&[Form::AsItIs]));
         Table { title, answer: "pairs", contenders, against: BY_ROWS, inputs, operation, words: pairs }
     };
     vec![
@@ -56,7 +83,7 @@ pub fn tables() -> Vec<Table> {
             answer: "answer",
             contenders: of_search,
             against: PLAIN,
-            inputs: inputs(&[false, true]),
+            inputs: inputs(&[Form::AsItIs, Form::Departing]),
             operation: search,
             words: answer,
         },
@@ -78,14 +105,20 @@ fn answer(returned: Returned) -> String {
     }
 }
 
-/// Every kind in every size with every number of clocks; of those that depart anyway no second form.
-fn inputs(forms: &[bool]) -> Vec<Input> {
+/// Every kind in every size with every number of clocks; of those that depart anyway no second form. Then some with
+/// each edge once and twice.
+fn inputs(forms: &[Form]) -> Vec<Input> {
     let mut inputs = Vec::new();
     for kind in KINDS {
-        for departs in forms.iter().copied().filter(|departs| !(*departs && kind.departs())) {
+        for form in forms.iter().copied().filter(|form| !(*form == Form::Departing && kind.departs())) {
             for clocks in CLOCKS {
-                inputs.extend(SIZES.map(|states| Input { kind, states, clocks, departs }));
+                inputs.extend(SIZES.map(|states| Input { kind, states, clocks, form }));
             }
+        }
+    }
+    for kind in DOUBLED {
+        for states in SIZES {
+            inputs.extend([Form::Fewer, Form::Twice].map(|form| Input { kind, states, clocks: DOUBLED_CLOCKS, form }));
         }
     }
     inputs
@@ -94,24 +127,39 @@ fn inputs(forms: &[bool]) -> Vec<Input> {
 impl Table {
     /// The cases whose name has the words, each made when its turn comes.
     pub fn cases<'a>(&'a self, words: &'a str) -> impl Iterator<Item = Case> + 'a {
-        let named = self.inputs.iter().map(|input| (input.name(), input.texts()));
-        named.filter(move |(name, _)| name.contains(words)).map(|(name, texts)| {
-            let (returned, calls) = (self.operation)(&self.contenders, Rc::new(texts));
-            Case { name, answer: (self.words)(returned), calls }
+        let named = self.inputs.iter().map(|input| (input.name(), input));
+        named.filter(move |(name, _)| name.contains(words)).map(|(name, input)| {
+            let contenders = match input.form {
+                Form::Twice => with_parallel_edges(&self.contenders),
+                _ => self.contenders.clone(),
+            };
+            let (returned, calls) = (self.operation)(&contenders, Rc::new(input.texts()));
+            Case { name, answer: (self.words)(returned), contenders, calls }
         })
     }
 }
 
 impl Input {
     fn texts(self) -> Texts {
-        let make = if self.departs { departing } else { texts };
-        make(self.kind, self.states, self.clocks, CHANNELS)
+        let make = if self.form == Form::Departing { departing } else { texts };
+        let (left, right) = make(self.kind, self.states, self.clocks, self.form.channels());
+        let twice = |text: &[u8]| each_edge_twice(text).expect("room for as many edges again");
+        match self.form {
+            Form::Twice => (twice(&left), twice(&right)),
+            _ => (left, right),
+        }
     }
 
     fn name(self) -> String {
         let (left, _) = self.texts();
         let clocks = if self.clocks == 1 { "1 clock".to_string() } else { format!("{} clocks", self.clocks) };
-        let departs = if self.departs { ", departing" } else { "" };
-        format!("{}, {1} × {1} states, {clocks}{departs}", self.kind.name(), states(&left))
+        let channels = self.form.channels();
+        let form = match self.form {
+            Form::AsItIs => String::new(),
+            Form::Departing => ", departing".to_string(),
+            Form::Fewer => format!(", {channels} channels"),
+            Form::Twice => format!(", {channels} channels, each edge twice"),
+        };
+        format!("{}, {1} × {1} states, {clocks}{form}", self.kind.name(), states(&left))
     }
 }

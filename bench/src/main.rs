@@ -3,7 +3,8 @@
 //! Prints markdown tables. Every answer of the two is compared; a difference ends the run.
 //! MEGZHOI_ROUNDS is how often each is timed (7); MEGZHOI_ONLY leaves out the cases whose line does not have it.
 //! MEGZHOI_BEFORE is the path of an older build of the library as a shared object, which every table then shows beside
-//! this one, timed in the same rounds; its answers have to be the same. An operation that it lacks is timed without it.
+//! this one, timed in the same rounds; its answers have to be the same. An operation that it lacks is timed without it,
+//! and so are texts with parallel edges, where it refuses them.
 //! All calls are at tick length 1, and an older build that takes no tick length is called without one.
 //! MEGZHOI_AFTER names this build's own shared object: calls into a shared object and into a linked archive differ by a
 //! few hundredths.
@@ -16,6 +17,9 @@ mod timing;
 
 use contenders::{place, AFTER, BEFORE, PLAIN};
 use timing::{time, Times};
+
+/// In place of the time of an older build that refuses the texts.
+const REFUSED: &str = "refused";
 
 fn main() {
     boundary::on_large_stack(run);
@@ -57,14 +61,18 @@ fn print_sizes(table: &cases::Table, rounds: usize, only: &str) {
 /// Times one case and prints its line; gives the library's nanoseconds per unit. Growth is over those of the smaller
 /// case on the line before.
 fn print_case(table: &cases::Table, case: &cases::Case, rounds: usize, smaller: Option<f64>) -> f64 {
-    let (units, mut calls) = table.make(case);
+    let contenders = table.contenders(case);
+    let (units, mut calls) = table.make(case, &contenders);
     let times = time(&mut calls, rounds);
-    let of = |name| Some(&times[place(&table.contenders, name)?]);
+    let of = |name| Some(&times[place(&contenders, name)?]);
     let (library, plain) = (of(AFTER).expect("this build"), of(PLAIN).expect("plain Rust"));
     let per_unit = |times: &Times| times.best / units as f64;
     let growth = smaller.map_or("".to_string(), |smaller| format!("{:.2}", per_unit(library) / smaller));
-    let before = of(BEFORE)
-        .map_or("".to_string(), |before| format!(" {} | {:.2} |", shown(before.best), library.best / before.best));
+    let before = match (of(BEFORE), place(&table.contenders, BEFORE)) {
+        (Some(before), _) => format!(" {} | {:.2} |", shown(before.best), library.best / before.best),
+        (None, Some(_)) => format!(" {REFUSED} | |"),
+        (None, None) => String::new(),
+    };
     println!(
         "| {} | {units} | {} | {} | {} | {} | {:.2} | {:.2} | {:.2} | {growth} |{before}",
         case.name,
@@ -82,18 +90,18 @@ fn print_case(table: &cases::Table, case: &cases::Case, rounds: usize, smaller: 
 /// Times and prints a table by kind.
 fn print_kinds(table: &kinds::Table, rounds: usize, only: &str) {
     let names: Vec<&str> = table.contenders.iter().map(|contender| contender.name).collect();
-    let place = |name: &str| place(&table.contenders, name);
-    let after = place(AFTER).expect("this build");
-    let against = [BEFORE, table.against].into_iter().filter_map(|name| Some((name, place(name)?)));
-    let (ratios, others): (Vec<String>, Vec<usize>) =
-        against.map(|(name, place)| (format!("{AFTER} / {name}").replace("library ", ""), place)).unzip();
+    let against: Vec<&str> = [BEFORE, table.against].into_iter().filter(|name| names.contains(name)).collect();
+    let ratios: Vec<String> = against.iter().map(|name| format!("{AFTER} / {name}").replace("library ", "")).collect();
     println!("### {}\n", table.title);
     println!("| input | {} | {} | {} |", table.answer, names.join(" | "), ratios.join(" | "));
     println!("|---|---:|{}", "---:|".repeat(names.len() + ratios.len()));
     for mut case in table.cases(only) {
         let times: Vec<f64> = time(&mut case.calls, rounds).iter().map(|times| times.best).collect();
-        let ratios: Vec<String> = others.iter().map(|other| format!("{:.2}", times[after] / times[*other])).collect();
-        let times: Vec<String> = times.into_iter().map(shown).collect();
+        let of = |name: &str| Some(times[place(&case.contenders, name)?]);
+        let after = of(AFTER).expect("this build");
+        let ratio = |name: &&str| of(name).map_or(String::new(), |other| format!("{:.2}", after / other));
+        let ratios: Vec<String> = against.iter().map(ratio).collect();
+        let times: Vec<String> = names.iter().map(|name| of(name).map_or(REFUSED.to_string(), shown)).collect();
         println!("| {} | {} | {} | {} |", case.name, case.answer, times.join(" | "), ratios.join(" | "));
     }
     println!();

@@ -7,6 +7,7 @@ pub mod moves;
 pub mod numbers;
 pub mod packed;
 pub mod pairs;
+pub mod parallel;
 pub mod reached;
 pub mod records;
 pub mod runs;

@@ -1,10 +1,11 @@
 -- THE GUARANTEES, to be read first. The demands (SPECIFICATION 17.1 to 17.3) as theorems about the operations' own
--- outcomes (safe-outcome, search-outcome, check-outcome, widest-outcome, implementation-outcome, join-outcome), which
--- the contracts of the operations equate with what the code answers and leaves in the lent slices. The words are
--- defined in Texts.antt and, for systems, in crate systems, Definitions.antt, in crate reachable, Meaning.antt, and in
--- crate demands, Words.antt; what each demand asks, clause by clause, is a record or a type of cases in crate demands,
--- Demands.antt and Answers.antt, and in Demands.antt, Implementations.antt, Lengths.antt and Joining.antt here. The
--- other files of this crate are laws: the operations on two texts are instances of those on two systems.
+-- outcomes (read-outcome, safe-outcome, search-outcome, check-outcome, widest-outcome, implementation-outcome,
+-- join-outcome), which the contracts of the operations equate with what the code answers and leaves in the lent slices.
+-- The words are defined in Texts.antt and, for systems, in crate systems, Definitions.antt, in crate reachable,
+-- Meaning.antt, and in crate demands, Words.antt; what each demand asks, clause by clause, is a record or a type of cases
+-- in crate demands, Demands.antt and Answers.antt, and in Demands.antt, Implementations.antt, Lengths.antt, Parallel.antt
+-- and Joining.antt here. The other files of this crate are laws: the operations on two texts are instances of those on
+-- two systems.
 use mathlib.Core.Path.{_≡_, subst}
 use mathlib.Core.Logic.{_↔_}
 use mathlib.Core.Option.{none, some}
@@ -12,6 +13,7 @@ use mathlib.Core.List.{List}
 use Prim.Native.Nat.{ℕ}
 use Rattle.refusals.specs.declared.Refusal.{Refusal}
 use Rattle.systems.specs.Definitions.{Largest-safe-set}
+use Rattle.clocks_read.specs.Reading.{read-outcome}
 use Rattle.clocks_read.specs.Laws.{read-accepted}
 use Rattle.two_texts.specs.Two.{text-of, two-judged}
 use Rattle.two_texts.specs.Laws.{judged-none, channels-equal, judged-by-some}
@@ -38,6 +40,8 @@ use Rattle.guarantees.specs.Implementations.{Implementation-demand}
 use Rattle.guarantees.specs.Implemented.{implementation-promised}
 use Rattle.guarantees.specs.Lengths.{Ticks-demand, Length-demand}
 use Rattle.guarantees.specs.Allowed.{ticks-promised, length-promised}
+use Rattle.guarantees.specs.Parallel.{Parallel-demand}
+use Rattle.guarantees.specs.OneMove.{parallel-promised}
 use Rattle.guarantees.specs.Joining.{Join-demand}
 use Rattle.guarantees.specs.Joins.{join-promised}
 use Rattle.guarantees.specs.Counted as counted
@@ -76,6 +80,11 @@ module _ (period : ℕ) where
   -- succeeds is an implementation that satisfies itself (SPECIFICATION 17.8).
   pub implementation-exactly : (s : List ℕ) → Implementation-demand period s (implementation-outcome period s)
   implementation-exactly = implementation-promised period
+
+  -- Codes 10 and 11, for every text: when they come, and that parallel edges, which give moves by one channel and lead
+  -- to one state, make one move (SPECIFICATION 17.12).
+  pub parallel-exactly : (s : List ℕ) → Parallel-demand period s (read-outcome period s .answer)
+  parallel-exactly = parallel-promised period
 
   -- Joining, for every two texts and every slice: when 25 and 26 come, and that the joined text is accepted with tick
   -- length 1 and satisfied by exactly the implementations that satisfy both texts (SPECIFICATION 17.10).

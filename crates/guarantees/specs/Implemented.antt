@@ -1,9 +1,9 @@
 -- The implementation check gives what is asked of it: what is computed on state numbers is said of configurations.
 use mathlib.Core.Path.{_≡_, refl, sym, ap, subst, _∙_}
 use mathlib.Core.Logic.{_↔_}
-use mathlib.Core.Bool.{Bool, cond}
+use mathlib.Core.Bool.{cond}
 use mathlib.Core.List.{List}
-use Prim.Native.Nat.{ℕ, _<_}
+use Prim.Native.Nat.{ℕ}
 use native.Mathlib.Omega.{arith}
 use lib.Dec.{eqb}
 use Rattle.limits.specs.Limits.{tick-allowed}
@@ -25,7 +25,7 @@ use Rattle.clocks_read.specs.Laws.{read-accepted}
 use Rattle.two_texts.specs.Two.{text-of}
 use Rattle.implementation_check.specs.Outcome.{found-answer, answered, implementation-outcome}
 use Rattle.implementation_check.specs.Laws.{finding-same}
-use Rattle.implementation_check.specs.Codes.{last-code, tick-code, Code-at, not-late, reading-codes}
+use Rattle.implementation_check.specs.Codes.{last-code, Code-at, too-late, reading-codes}
 use Rattle.demands.specs.Same.{same-safe}
 use Rattle.guarantees.specs.Texts.{Accepted-text, meaning, number}
 use Rattle.guarantees.specs.Implementations.{Implementation-demand}
@@ -45,15 +45,6 @@ told-answer (NeitherPossible s) = refl
 
 answer-one : (f g : Finding) → found-answer f ≡ found-answer g → f ≡ g
 answer-one f g e = sym (told-answer f) ∙ ap told e ∙ told-answer g
-
--- the codes of the check are none of reading
-too-late :
-    (b : Bool) (f r : Refusal) → Refused f ≡ Refused r → last-code < f .code → f .code < tick-code
-    → Code-at b (r .code) → ⊥
-too-late b f r e h k l =
-    let z : f ≡ r = cc in
-    let same : f .code ≡ r .code = ap (λ (x : Refusal). x .code) z in
-    not-late b (r .code) l (omega (arith, same)) (omega (arith, same))
 
 module _ (period : ℕ) where
   -- an accepted text
@@ -132,10 +123,10 @@ module _ (period : ℕ) where
     as-reading = refused-as s;
     succeeds = by-finding s Nothing (λ r e l q. let z : _≡_ {A = ℕ} 0 1 = cc in absurd (omega arith));
     beside = λ p c. by-finding s (OutputBesideTick p c)
-        (λ r e l q. too-late (tick-allowed period) (output-beside-tick p c) r (sym e ∙ q) (omega arith)
+        (λ r e l q. too-late last-code (tick-allowed period) (output-beside-tick p c) r (sym e ∙ q) (omega arith)
         (omega arith) l);
     neither = λ p. by-finding s (NeitherPossible p)
-        (λ r e l q. too-late (tick-allowed period) (neither-possible p) r (sym e ∙ q) (omega arith) (omega arith) l);
+        (λ r e l q. too-late last-code (tick-allowed period) (neither-possible p) r (sym e ∙ q) (omega arith) (omega arith) l);
     itself = λ e a. own s a e;
     consistent = λ e a. let o = own s a e in (o .implementation, o .satisfies);
     start-safe = λ e a. safe-start s a e;

@@ -9,5 +9,7 @@ pub mod Implementations
 pub mod Implemented
 pub mod Lengths
 pub mod Allowed
+pub mod Parallel
+pub mod OneMove
 pub mod Joining
 pub mod Joins

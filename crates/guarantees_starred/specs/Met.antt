@@ -1,13 +1,24 @@
--- That the hypotheses of the demands (SPECIFICATION 17.2, 17.3, 17.8, 17.9) can be met: by Post (SPECIFICATION 16.1)
--- against itself, with slices that are long enough, and by Sheet at tick length 1,000.
+-- That the hypotheses of the demands (SPECIFICATION 17.2, 17.3, 17.8, 17.9, 17.12) can be met: by Post (SPECIFICATION
+-- 16.1) against itself, with slices that are long enough, by Sheet at tick length 1,000, and by texts with two edges for
+-- one input (SPECIFICATION 16.10).
 use mathlib.Core.Path.{_≡_, sym, ap, subst, _∙_}
 use mathlib.Core.Bool.{Bool, true}
+use mathlib.Core.Option.{some}
 use mathlib.Core.List.{List}
-use Prim.Native.Nat.{ℕ, _≤_}
+use Prim.Native.Nat.{ℕ, zero, suc, _≤_, _<_}
 use native.Mathlib.Omega.{arith}
 use lib.Dec.{T}
 use lib.ListN.{length}
-use Rattle.reader_examples.specs.Texts.{post, strict, loose, sheet, hush}
+use Rattle.reader_record.specs.declared.Text.{Text}
+use Rattle.reader_record.specs.Record.{edge}
+use Rattle.reader.specs.declared.Parsed.{Parsed}
+use Rattle.reader_formed.specs.Formed.{read-formed}
+use Rattle.reader_examples.specs.Texts.{post, strict, loose, sheet, hush, twice, stay-or-go, reset-or-not}
+use Rattle.reader_examples.specs.Records.{twice-record}
+use Rattle.reader_examples.specs.Read.{twice-read}
+use Rattle.clocks.specs.Meaning.{after, moves, led, start-of}
+use Rattle.clocks.specs.Faults.{edge-gives, Two-ways, None-lower}
+use Rattle.clocks.specs.Standing.{start-stands}
 use Rattle.clocks_read.specs.declared.Reading.{Reading}
 use Rattle.systems.specs.Tests.{at}
 use Rattle.systems.specs.Finite.{safe}
@@ -20,10 +31,12 @@ use Rattle.demands.specs.Long.{no-refusal}
 use Rattle.demands.specs.Words.{Consistent, Long-enough, search-refusal, check-refusal, widest-refusal, Right-form}
 use Rattle.guarantees.specs.Texts.{Accepted-text, states, meaning, number, Equal-channels}
 use Rattle.guarantees.specs.Lengths.{Length-refused}
-use Rattle.guarantees.specs.Guarantees.{lengths-judged, implementation-exactly}
+use Rattle.guarantees.specs.Parallel.{record-of, States-judged}
+use Rattle.guarantees.specs.Guarantees.{lengths-judged, implementation-exactly, parallel-exactly}
 use Rattle.guarantees.specs.Setting.{left-capping, Left}
-use Rattle.guarantees_starred.specs.Posts.{post-keep, post-known, strict-known}
-use Rattle.guarantees_starred.specs.Runs.{post-post-equal, strict-post-equal}
+use Rattle.guarantees_starred.specs.Opened.{opened-states}
+use Rattle.guarantees_starred.specs.Posts.{post-keep, post-known, strict-known, twice-known}
+use Rattle.guarantees_starred.specs.Runs.{post-post-equal, strict-post-equal, twice-post-equal}
 use Rattle.guarantees_starred.specs.Sentences.{Room, ten-by-ten, diagonal-raster}
 use Rattle.guarantees_starred.specs.Tables.{diagonal-fits}
 use Rattle.guarantees_starred.specs.Outcomes.{left-accepted, right-accepted, channels-equal, facts}
@@ -65,6 +78,40 @@ loose-says = implementation-exactly shortest-tick loose .beside 2 3 .0 (starred-
 pub hush-says : (a : Accepted-text shortest-tick hush)
     × Says (meaning shortest-tick hush a) (number shortest-tick hush a) (NeitherPossible 3)
 hush-says = implementation-exactly shortest-tick hush .neither 3 .0 (starred-posts .hush-neither)
+
+-- texts that reading refuses with 11: what SPECIFICATION 17.12 says of the answer is said of edges that lead to different
+-- locations, and of edges after which a clock differs
+pub stay-apart : States-judged shortest-tick stay-or-go × None-lower (record-of shortest-tick stay-or-go) 0 1
+    × Two-ways (record-of shortest-tick stay-or-go) 0 1
+stay-apart = parallel-exactly shortest-tick stay-or-go .eleven 0 1 .0 (starred-posts .stay-refused)
+
+pub reset-apart : States-judged shortest-tick reset-or-not × None-lower (record-of shortest-tick reset-or-not) 1 1
+    × Two-ways (record-of shortest-tick reset-or-not) 1 1
+reset-apart = parallel-exactly shortest-tick reset-or-not .eleven 1 1 .0 (starred-posts .reset-refused)
+
+-- an accepted text with two edges that give a move by one channel at the start: both lead where the step leads
+pub twice-accepted : Accepted-text shortest-tick twice
+twice-accepted = left-accepted twice-known post-known twice-post-equal
+
+pub twice-edges : (i : ℕ) → i < 2 → T (edge-gives (record-of shortest-tick twice) (start-of (record-of shortest-tick twice)) 1 i)
+twice-edges i h = subst (λ (t : Text). T (edge-gives t (start-of t) 1 i)) (sym twice-text) (here i h)
+  where
+    twice-text : record-of shortest-tick twice ≡ twice-record
+    twice-text = ap (λ (p : Parsed). p .text) twice-read
+
+    here : (i : ℕ) → i < 2 → T (edge-gives twice-record (start-of twice-record) 1 i)
+    here zero l = unfold opened-states edge-gives in tt
+    here (suc zero) l = unfold opened-states edge-gives in tt
+    here (suc (suc i)) l = absurd (omega arith)
+
+pub twice-one-move : (i : ℕ) → i < 2
+    → led (moves (record-of shortest-tick twice) (start-of (record-of shortest-tick twice)) 1)
+    ≡ some (after (edge (record-of shortest-tick twice) i) (start-of (record-of shortest-tick twice)))
+twice-one-move i h =
+    let t = record-of shortest-tick twice in
+    let w = read-formed shortest-tick twice (ap (λ (p : Parsed). p .answer) twice-read) in
+    parallel-exactly shortest-tick twice .one-move twice-accepted (start-of t) (start-stands t w) 1 i
+    (omega (arith, ap (λ (p : Parsed). p .text .«edge_count») twice-read)) (twice-edges i h)
 
 -- equal channels
 pub post-channels : Equal-channels shortest-tick post post

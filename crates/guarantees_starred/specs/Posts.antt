@@ -1,4 +1,4 @@
--- Six of the texts, read and judged: accepted, and the safe states of each, computed.
+-- Seven of the texts, read and judged: accepted, and the safe states of each, computed.
 use mathlib.Core.Path.{_≡_, refl, sym, ap, _∙_}
 use mathlib.Core.Bool.{Bool, true, false}
 use mathlib.Core.List.{List, [], _∷_}
@@ -9,9 +9,9 @@ use Rattle.reader_record.specs.declared.Text.{Text}
 use Rattle.refusals.specs.declared.Verdict.the-variants as verdict
 use Rattle.reader.specs.declared.Parsed.{Parsed}
 use Rattle.reader.specs.Reading.{read-text}
-use Rattle.reader_examples.specs.Texts.{post, rearm, early, strict, hush, idle}
-use Rattle.reader_examples.specs.Records.{post-record, rearm-record, early-record, strict-record, hush-record, idle-record}
-use Rattle.reader_examples.specs.Read.{post-read, rearm-read, early-read, strict-read, hush-read, idle-read}
+use Rattle.reader_examples.specs.Texts.{post, rearm, early, strict, hush, idle, twice}
+use Rattle.reader_examples.specs.Records.{post-record, rearm-record, early-record, strict-record, hush-record, idle-record, twice-record}
+use Rattle.reader_examples.specs.Read.{post-read, rearm-read, early-read, strict-read, hush-read, idle-read, twice-read}
 use Rattle.clocks.specs.declared.Judged.the-variants.{Clean}
 use Rattle.clocks.specs.Accepted.{Accepted}
 use Rattle.clocks.specs.States.{state-count, start-state, judgement}
@@ -93,3 +93,8 @@ idle-keep = true ∷ true ∷ true ∷ true ∷ []
 pub idle-known : Known idle idle-record 4 idle-keep
 unfolding opened
 idle-known = known idle-read refl refl refl (λ a. refl)
+
+-- the safe states of Twice are those of Post
+pub twice-known : Known twice twice-record 10 post-keep
+unfolding opened
+twice-known = known twice-read refl refl refl (λ a. refl)

@@ -1,4 +1,4 @@
--- Two of the six texts together: their systems as the operations
+-- Two of the seven texts together: their systems as the operations
 -- compute on them, and the runs, tables and checks computed.
 use mathlib.Core.Path.{_≡_, refl}
 use mathlib.Core.List.{List, [], _∷_}
@@ -8,14 +8,14 @@ use Rattle.systems.specs.Finite.{Finite-system, search-run}
 use Rattle.systems.specs.Renumbered.{renumbered}
 use Rattle.systems.specs.Compute.{search-by}
 use Rattle.reader_record.specs.declared.Text.{Text}
-use Rattle.reader_examples.specs.Texts.{post, rearm, early, strict, hush, idle}
-use Rattle.reader_examples.specs.Records.{post-record, rearm-record, early-record, strict-record, hush-record, idle-record}
+use Rattle.reader_examples.specs.Texts.{post, rearm, early, strict, hush, idle, twice}
+use Rattle.reader_examples.specs.Records.{post-record, rearm-record, early-record, strict-record, hush-record, idle-record, twice-record}
 use Rattle.clocks.specs.Accepted.{Accepted}
 use Rattle.clocks.specs.Contract.{signature, system}
 use Rattle.pairing.specs.Channels.{unmatched, right-step}
 use Rattle.pairing.specs.declared.Matched.the-variants.{Equal}
 use Rattle.guarantees_starred.specs.Opened.{opened-states, opened-pairing, opened}
-use Rattle.guarantees_starred.specs.Posts.{post-keep, post-known, rearm-keep, rearm-known, early-keep, early-known, strict-keep, strict-known, idle-keep, idle-known}
+use Rattle.guarantees_starred.specs.Posts.{post-keep, post-known, rearm-keep, rearm-known, early-keep, early-known, strict-keep, strict-known, idle-keep, idle-known, twice-known}
 
 -- what is known of two records that are compared, s and u being the bytes of their texts
 pub record Pair (s u : List ℕ) (l r : Text) : Type 0 where
@@ -66,6 +66,18 @@ pub post-strict-equal : unmatched post post-record strict strict-record ≡ Equa
 unfolding opened-states opened-pairing
 post-strict-equal = refl
 
+pub twice-post-equal : unmatched twice twice-record post post-record ≡ Equal
+unfolding opened-states opened-pairing
+twice-post-equal = refl
+
+pub post-twice-equal : unmatched post post-record twice twice-record ≡ Equal
+unfolding opened-states opened-pairing
+post-twice-equal = refl
+
+pub twice-twice-equal : unmatched twice twice-record twice twice-record ≡ Equal
+unfolding opened-states opened-pairing
+twice-twice-equal = refl
+
 -- the runs that the search finds
 pub post-post-run : (p : Pair post post post-record post-record) → search-run (left-of p) (right-of p) ≡ []
 unfolding opened
@@ -78,6 +90,14 @@ strict-post-run p = search-by (left-of p) (right-of p) strict-keep (strict-known
 pub post-strict-run : (p : Pair post strict post-record strict-record) → search-run (left-of p) (right-of p) ≡ []
 unfolding opened
 post-strict-run p = search-by (left-of p) (right-of p) post-keep (post-known .safe (p .left-text)) tt
+
+pub twice-post-run : (p : Pair twice post twice-record post-record) → search-run (left-of p) (right-of p) ≡ []
+unfolding opened
+twice-post-run p = search-by (left-of p) (right-of p) post-keep (twice-known .safe (p .left-text)) tt
+
+pub post-twice-run : (p : Pair post twice post-record twice-record) → search-run (left-of p) (right-of p) ≡ []
+unfolding opened
+post-twice-run p = search-by (left-of p) (right-of p) post-keep (post-known .safe (p .left-text)) tt
 
 pub early-post-run : (p : Pair early post early-record post-record) → search-run (left-of p) (right-of p)
     ≡ tick ∷ tick ∷ 3 ∷ []

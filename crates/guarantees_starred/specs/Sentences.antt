@@ -1,11 +1,11 @@
--- The starred posts, that is the examples that are proved: what SPECIFICATION 16.2 to 16.6, 16.8 and 16.9 say of the
--- nine texts, at tick length 1 but for Sheet. Definitions only: Starred.antt proves them (SPECIFICATION 17.4).
+-- The starred posts, that is the examples that are proved: what SPECIFICATION 16.2 to 16.6 and 16.8 to 16.10 say of the
+-- ten texts and of two more, at tick length 1 but for Sheet. Definitions only: Starred.antt proves them (SPECIFICATION 17.4).
 use mathlib.Core.Path.{_≡_}
 use mathlib.Core.Bool.{true, false}
 use mathlib.Core.List.{List, [], _∷_, _++_}
 use Prim.Native.Nat.{ℕ, _*_, _≤_}
 use lib.ListN.{length, drop}
-use Rattle.reader_examples.specs.Texts.{post, rearm, early, strict, loose, sheet, hush, idle, spare}
+use Rattle.reader_examples.specs.Texts.{post, rearm, early, strict, loose, sheet, hush, idle, spare, twice, stay-or-go, reset-or-not}
 use Rattle.refusals.specs.declared.Verdict.the-variants as verdict
 use Rattle.systems.specs.Definitions.{tick}
 use Rattle.reachable.specs.Check.{neither}
@@ -64,6 +64,13 @@ ten-by-ten r = ascii "P4\n10 10\n" ++ r
 abbrev pub hush-kept : List ℕ → List ℕ
 hush-kept keep = 0x07 ∷ 0xC0 ∷ drop 2 keep
 
+-- the widest table of the left s against the right u, both of 10 states, is that of Post against Post (SPECIFICATION
+-- 16.4)
+abbrev pub Widens-as-post : List ℕ → List ℕ → Type 0
+Widens-as-post s u = (keep table : List ℕ) → 2 ≤ length keep → 29 ≤ length table
+    → (widest-outcome shortest-tick s u keep table .answer ≡ made.Made 29 true)
+    × (widest-outcome shortest-tick s u keep table .table ≡ ten-by-ten widest-raster ++ drop 29 table)
+
 -- the examples, one field each
 pub record Starred : Type 0 where
   -- Post: its states, and how many are safe, the start among them (SPECIFICATION 16.2)
@@ -95,9 +102,7 @@ pub record Starred : Type 0 where
   -- Post against Post: no departure (SPECIFICATION 16.4)
   pub post-post : Searches post post 10 10 0 []
   -- its widest table, count and bytes (SPECIFICATION 16.4)
-  pub post-widest : (keep table : List ℕ) → 2 ≤ length keep → 29 ≤ length table
-      → (widest-outcome shortest-tick post post keep table .answer ≡ made.Made 29 true)
-      × (widest-outcome shortest-tick post post keep table .table ≡ ten-by-ten widest-raster ++ drop 29 table)
+  pub post-widest : Widens-as-post post post
   -- the check of the diagonal table: accepted, with its count (SPECIFICATION 16.4)
   pub diagonal : (keep : List ℕ) → 2 ≤ length keep
       → check-outcome shortest-tick post post keep (ten-by-ten diagonal-raster) .answer ≡ checked.Accepted 9
@@ -147,3 +152,17 @@ pub record Starred : Type 0 where
   pub sheet-large : read-outcome shortest-tick sheet .answer
       ≡ verdict.Refused (record { code = 6; file = 1; p = 78; q = 0 })
   pub sheet-zero : read-outcome 0 sheet .answer ≡ verdict.Refused (record { code = 24; file = 0; p = 0; q = 0 })
+  -- Twice: its parallel edges make one move, so that it has the answers of Post (SPECIFICATION 16.10)
+  pub twice-states : read-outcome shortest-tick twice .states ≡ 10
+  pub twice-safe : (keep : List ℕ) → 2 ≤ length keep → safe-outcome shortest-tick twice keep .answer
+      ≡ counted.Found 9 true
+  pub twice-post : Searches twice post 10 10 0 []
+  pub post-twice : Searches post twice 10 10 0 []
+  pub twice-widest : Widens-as-post twice post
+  pub twice-widened : Widens-as-post post twice
+  pub twice-passes : implementation-outcome shortest-tick twice ≡ verdict.Accepted
+  -- 11 where the second edge leads to Wait, and where it resets x (SPECIFICATION 16.10)
+  pub stay-refused : read-outcome shortest-tick stay-or-go .answer
+      ≡ verdict.Refused (record { code = 11; file = 1; p = 0; q = 1 })
+  pub reset-refused : read-outcome shortest-tick reset-or-not .answer
+      ≡ verdict.Refused (record { code = 11; file = 1; p = 1; q = 1 })

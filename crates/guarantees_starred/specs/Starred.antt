@@ -31,22 +31,23 @@ use Rattle.tables.specs.declared.CheckAnswer.the-variants as check
 use Rattle.tables.specs.declared.WidestAnswer.{WidestAnswer}
 use Rattle.tables.specs.declared.WidestAnswer.the-variants as made
 use Rattle.tables.specs.Outcome.{Checked, check-refused, scanned, Widened, widest-refused}
-use Rattle.guarantees_starred.specs.Sentences.{widest-raster, diagonal-raster, start-raster, ten-by-ten, hush-kept, Starred}
-use Rattle.guarantees_starred.specs.Safe.{post-counted, strict-counted, hush-counted}
-use Rattle.guarantees_starred.specs.Implementations.{post-passes, rearm-passes, early-passes, idle-passes, strict-passes, hush-neither, loose-beside, spare-count, spare-fault, spare-passes, sheet-count, sheet-fewer, sheet-passes, sheet-beside, sheet-longest, sheet-large, sheet-zero}
-use Rattle.guarantees_starred.specs.Posts.{Known, hush-keep, post-known, rearm-known, early-known, strict-known, hush-known, idle-known}
-use Rattle.guarantees_starred.specs.Runs.{Pair, left-of, right-of, post-post-equal, early-post-equal, idle-post-equal, post-idle-equal, post-hush-equal, rearm-post-equal, hush-post-equal, strict-post-equal, post-strict-equal, strict-post-run, post-strict-run, post-post-run, early-post-run, idle-post-run, post-idle-run, post-hush-run, rearm-post-run}
-use Rattle.guarantees_starred.specs.Tables.{post-pairs, post-widest, post-count, post-file, file-size, header-size, strict-file-size, strict-file-wide, pairs-of, rearm-pairs, strict-post-pairs, post-strict-pairs, diagonal-judged, start-fault, start-judged, diagonal-count, diagonal-fits, start-fits}
+use Rattle.guarantees_starred.specs.Sentences.{widest-raster, diagonal-raster, start-raster, ten-by-ten, hush-kept, Widens-as-post, Starred}
+use Rattle.guarantees_starred.specs.Safe.{post-counted, strict-counted, hush-counted, twice-counted}
+use Rattle.guarantees_starred.specs.Implementations.{post-passes, rearm-passes, early-passes, idle-passes, strict-passes, hush-neither, loose-beside, spare-count, spare-fault, spare-passes, sheet-count, sheet-fewer, sheet-passes, sheet-beside, sheet-longest, sheet-large, sheet-zero, twice-passes, stay-refused, reset-refused}
+use Rattle.guarantees_starred.specs.Posts.{Known, hush-keep, post-known, rearm-known, early-known, strict-known, hush-known, idle-known, twice-known}
+use Rattle.guarantees_starred.specs.Runs.{Pair, left-of, right-of, post-post-equal, early-post-equal, idle-post-equal, post-idle-equal, post-hush-equal, rearm-post-equal, hush-post-equal, strict-post-equal, post-strict-equal, twice-post-equal, post-twice-equal, strict-post-run, post-strict-run, twice-post-run, post-twice-run, post-post-run, early-post-run, idle-post-run, post-idle-run, post-hush-run, rearm-post-run}
+use Rattle.guarantees_starred.specs.Tables.{post-pairs, post-widest, twice-post-widest, post-twice-widest, post-count, post-file, file-size, header-size, strict-file-size, strict-file-wide, pairs-of, rearm-pairs, strict-post-pairs, post-strict-pairs, diagonal-judged, start-fault, start-judged, diagonal-count, diagonal-fits, start-fits}
 use Rattle.guarantees_starred.specs.Outcomes.{compares, of-texts, search-unsafe, check-unsafe, widest-unsafe, searched, widened, checked}
 use Rattle.limits.specs.Limits.{shortest-tick}
 
--- Post against Post: the widest table and the two given ones
-post-post-made : (keep table : List ℕ) → 2 ≤ length keep → 29 ≤ length table
-    → (widest-outcome shortest-tick post post keep table .answer ≡ made.Made 29 true)
-    × (widest-outcome shortest-tick post post keep table .table ≡ ten-by-ten widest-raster ++ drop 29 table)
-post-post-made keep table h k =
-    let o = widened post-known post-known post-post-equal refl post-pairs
-    (of-texts post-known post-known post-post-equal (λ l r p. widest (left-of p) (right-of p) ≡ post-pairs) post-widest)
+-- two texts of 10 states whose widest table is that of Post against Post
+made-as-post :
+    {s u : List ℕ} {l r : Text} {K J : List Bool} (x : Known s l 10 K) (y : Known u r 10 J)
+    (e : unmatched s l u r ≡ Equal) → at K 0 ≡ true
+    → ((p : Pair s u l r) → widest (left-of p) (right-of p) ≡ post-pairs) → Widens-as-post s u
+made-as-post x y e safe is keep table h k =
+    let o = widened x y e safe post-pairs
+    (of-texts x y e (λ l r p. widest (left-of p) (right-of p) ≡ post-pairs) is)
     keep table h (rw file-size k) in (
       ap (λ (x : Widened). x .answer) o ∙ ap (λ (n : ℕ). made.Made n true) post-count,
       ap (λ (x : Widened). x .table) o ∙ ap (λ (t : List ℕ). t ++ drop (table-bytes 10 10) table) post-file
@@ -101,7 +102,7 @@ starred-posts = record {
   hush-widest = λ keep table h k. widest-unsafe hush-known post-known hush-post-equal refl keep table h (rw file-size k)
       ∙ ap (λ (k : List ℕ). widest-refused (start-not-safe 0) k table) (hush-bytes keep);
   post-post = searched post-known post-known post-post-equal refl [] post-post-run;
-  post-widest = post-post-made;
+  post-widest = made-as-post post-known post-known post-post-equal refl post-widest;
   diagonal = λ keep h. post-post-checked diagonal-raster Passed diagonal-fits refl diagonal-judged keep h
       ∙ ap check.Accepted diagonal-count;
   start-only = post-post-checked start-raster start-fault start-fits refl start-judged;
@@ -135,4 +136,13 @@ starred-posts = record {
   sheet-longest = sheet-longest;
   sheet-large = sheet-large;
   sheet-zero = sheet-zero;
+  twice-states = ap (λ (o : Reading). o .states) (twice-known .read) ∙ twice-known .size;
+  twice-safe = twice-counted;
+  twice-post = searched twice-known post-known twice-post-equal refl [] twice-post-run;
+  post-twice = searched post-known twice-known post-twice-equal refl [] post-twice-run;
+  twice-widest = made-as-post twice-known post-known twice-post-equal refl twice-post-widest;
+  twice-widened = made-as-post post-known twice-known post-twice-equal refl post-twice-widest;
+  twice-passes = twice-passes;
+  stay-refused = stay-refused;
+  reset-refused = reset-refused;
 }

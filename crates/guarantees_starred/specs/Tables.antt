@@ -7,8 +7,8 @@ use Rattle.systems.specs.Tests.{at, ones, table, sieve, least}
 use Rattle.systems.specs.Definitions.{tick, Signature}
 use Rattle.systems.specs.Finite.{Finite-system, safe-states, widest, if-in, pruned, step-ok}
 use Rattle.systems.specs.Compute.{widest-by}
-use Rattle.reader_examples.specs.Texts.{post, rearm, strict}
-use Rattle.reader_examples.specs.Records.{post-record, rearm-record, strict-record}
+use Rattle.reader_examples.specs.Texts.{post, rearm, strict, twice}
+use Rattle.reader_examples.specs.Records.{post-record, rearm-record, strict-record, twice-record}
 use Rattle.bitmaps.specs.Bits.{bit-at, byte-of, tab-from}
 use Rattle.tables_check.specs.Fault.{step, step-fault, picked, row-from, table-from}
 use Rattle.tables_check.specs.declared.Fault.{Fault}
@@ -24,7 +24,7 @@ use Rattle.tables.specs.declared.WidestAnswer.{WidestAnswer}
 use Rattle.tables.specs.declared.WidestAnswer.the-variants as made
 use Rattle.guarantees_starred.specs.Sentences.{widest-raster, diagonal-raster, start-raster, ten-by-ten}
 use Rattle.guarantees_starred.specs.Opened.{opened}
-use Rattle.guarantees_starred.specs.Posts.{post-keep, post-known, rearm-keep, rearm-known, strict-keep, strict-known}
+use Rattle.guarantees_starred.specs.Posts.{post-keep, post-known, rearm-keep, rearm-known, strict-keep, strict-known, twice-known}
 use Rattle.guarantees_starred.specs.Runs.{Pair, left-of, right-of}
 
 -- the widest table of Post against Post, row after row
@@ -44,6 +44,15 @@ post-pairs =
 pub post-widest : (p : Pair post post post-record post-record) → widest (left-of p) (right-of p) ≡ post-pairs
 unfolding opened
 post-widest p = widest-by (left-of p) (right-of p) post-keep (post-known .safe (p .left-text))
+
+-- Twice against Post and Post against Twice: the same table
+pub twice-post-widest : (p : Pair twice post twice-record post-record) → widest (left-of p) (right-of p) ≡ post-pairs
+unfolding opened
+twice-post-widest p = widest-by (left-of p) (right-of p) post-keep (twice-known .safe (p .left-text))
+
+pub post-twice-widest : (p : Pair post twice post-record twice-record) → widest (left-of p) (right-of p) ≡ post-pairs
+unfolding opened
+post-twice-widest p = widest-by (left-of p) (right-of p) post-keep (post-known .safe (p .left-text))
 
 -- how many there are, and the file
 pub post-count : ones post-pairs ≡ 29

@@ -30,7 +30,7 @@ use Rattle.reader_examples.specs.Records.{post-record, rearm-record, idle-recor
 use Rattle.reader_examples.specs.Read.{Reads-to, post-read, rearm-read}
 use Rattle.reader_tokens.specs.Scan.{agree as letters-agree, same}
 use Rattle.reader_record.specs.Formed.{Well-formed}
-use Rattle.clocks.specs.Meaning.{clock-value, compares, met, holds, invariant, reset, after, one-if, also, gives, edge-move, edge-moves, ticked, tick-move, moves, start-of}
+use Rattle.clocks.specs.Meaning.{clock-value, compares, met, holds, invariant, reset, after, equal-config, one-if, also, gives, edge-move, edge-moves, ticked, tick-move, moves, start-of}
 use Rattle.clocks.specs.States.{most, constant-for, largest-in, largest, values, ranges, state-count, cap, state, config, leads, state-moves, next, state-invariant, start-state, is-input, input, too-many, or-else, first-fault, fault, step-fault, state-fault, states-judged, judgement}
 use Rattle.clocks.specs.Accepted.{Accepted}
 use Rattle.pairing.specs.declared.Matched.the-variants.{Equal as Equal-texts}
@@ -45,7 +45,7 @@ use Rattle.joined.specs.Results.{texts-conjunction}
 unfoldable pub opened : Unit {0}
 unfolding letters-agree same alike first-from lowest partner agree matched first-unmatched verdict unmatched
     right-step all any tab-from blank-constraint blank-edge channel clock-value compares met holds invariant reset
-    after one-if also gives edge-move edge-moves ticked tick-move moves start-of most constant-for largest-in
+    after equal-config one-if also gives edge-move edge-moves ticked tick-move moves start-of most constant-for largest-in
     largest values ranges state-count cap state config leads state-moves next state-invariant start-state is-input
     input too-many or-else first-fault fault step-fault state-fault states-judged judgement pair shifted
     both-constraints both-resets matching joined-location joined-edge paired-with paired has-channel joined-channel

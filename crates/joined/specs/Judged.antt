@@ -11,18 +11,15 @@ use Rattle.reader_record.specs.declared.Text.{Text}
 use Rattle.limits.specs.Limits.{clock-limit, state-limit}
 use Rattle.reader_record.specs.Record.{edge, invariant-of}
 use Rattle.clocks.specs.declared.Config.{Config}
-use Rattle.clocks.specs.declared.Ranges.{Ranges}
-use Rattle.clocks.specs.declared.Moves.{Moves}
-use Rattle.clocks.specs.declared.Moves.the-variants.{Nothing, One, Two}
+use Rattle.clocks.specs.declared.Moves.the-variants.{One, Two}
 use Rattle.clocks.specs.Meaning.{clock-value, invariant, edge-moves, moves, start-of, stands}
-use Rattle.clocks.specs.States.{ranges, state-count, state, config, state-moves, state-invariant, input, too-many, judgement}
+use Rattle.clocks.specs.States.{ranges, state-count, config, state-moves, state-invariant, input, too-many, judgement}
 use Rattle.clocks.specs.Faults.{Deterministic}
-use Rattle.clocks.specs.Capped.{capped, capped-moves}
 use Rattle.clocks.specs.Accepted.{Accepted}
-use Rattle.clocks.specs.Numbers.{ranges-positive, config-state}
-use Rattle.clocks.specs.Agreement.{moves-capped, invariant-agrees}
-use Rattle.clocks.specs.Judgement.{judgement-judged, judged-iff, input-known}
-use Rattle.clocks.specs.Standing.{edge-moves-one, start-stands, stands-location, stands-invariant, stands-intro, state-below, config-below}
+use Rattle.clocks.specs.Judgement.{judged-iff, input-known}
+use Rattle.clocks.specs.Edges.{edge-moves-one}
+use Rattle.clocks.specs.Found.{standing-never-two, standing-input}
+use Rattle.clocks.specs.Standing.{start-stands, stands-location, stands-invariant, stands-intro, config-below}
 use Rattle.joined.specs.Joined.{pair, joined-edges, has-channel, joined-text, counts-fit}
 use Rattle.joined.specs.Formed.{fits-means, label-used, left-part, right-part, text-formed}
 use Rattle.joined.specs.Inputs.{input-exactly}
@@ -31,53 +28,6 @@ use Rattle.joined.specs.PairedLaws.{paired-inputs}
 use Rattle.joined.specs.Together.{Together, invariant-both, start-together}
 use Rattle.joined.specs.Both.{Both, both-one, both-never-two}
 use Rattle.joined.specs.Moves.{gives-iff, moves-both}
-
--- the moves of any configuration of an accepted text, uncapped: never two, and one for an input
-capped-two : (r : Ranges) (m : Moves) → capped-moves r m ≡ Two → m ≡ Two
-unfolding capped-moves
-capped-two r Nothing e = let z : _≡_ {A = ℕ} 0 1 = cc in absurd (omega arith)
-capped-two r (One v) e = let z : _≡_ {A = ℕ} 0 1 = cc in absurd (omega arith)
-capped-two r Two e = refl
-
-two-capped : (r : Ranges) → capped-moves r Two ≡ Two
-unfolding capped-moves
-two-capped r = refl
-
-capped-one : (r : Ranges) (m : Moves) (w : Config) → capped-moves r m ≡ One w → (v : Config) × (m ≡ One v)
-unfolding capped-moves
-capped-one r Nothing w e = let z : _≡_ {A = ℕ} 0 1 = cc in absurd (omega arith)
-capped-one r (One v) w e = (v, refl)
-capped-one r Two w e = let z : _≡_ {A = ℕ} 0 1 = cc in absurd (omega arith)
-
-one-capped : (r : Ranges) (v : Config) → capped-moves r (One v) ≡ One (capped r v)
-unfolding capped-moves
-one-capped r v = refl
-
-module _ (t : Text) (a : Accepted t) (v : Config) (s : T (stands t v)) where
-  deterministic : Deterministic t
-  deterministic = judged-iff t .0 (judgement-judged t (a .clean))
-
-  holds-there : T (state-invariant t (state (ranges t) v))
-  holds-there = subst T (sym (invariant-agrees t (a .formed) v (stands-location t v s))) (stands-invariant t v s)
-
-  below-there : state (ranges t) v < state-count t
-  below-there = state-below t (a .formed) v (stands-location t v s)
-
-  there : (c : ℕ) → state-moves t (state (ranges t) v) c ≡ moves t (capped (ranges t) v) c
-  unfolding state-moves
-  there c = ap (λ (u : Config). moves t u c) (config-state (ranges t) (ranges-positive t) v)
-
-  pub standing-never-two : (c : ℕ) → c ≤ t .«channel_count» → moves t v c ≡ Two → ⊥
-  standing-never-two c l e = deterministic .never-two (state (ranges t) v) c below-there holds-there l
-      (there c ∙ capped-two (ranges t) (moves t (capped (ranges t) v) c)
-      (moves-capped t (a .formed) v c (stands-location t v s) ∙ ap (capped-moves (ranges t)) e ∙ two-capped (ranges t)))
-
-  pub standing-input : (c : ℕ) → T (input t c) → (u : Config) × (moves t v c ≡ One u)
-  standing-input c i =
-      let (u, e) = deterministic .input-one (state (ranges t) v) c below-there holds-there i in
-      capped-one (ranges t) (moves t v c) (capped (ranges t) u)
-      (sym (moves-capped t (a .formed) v c (stands-location t v s))
-      ∙ ap (capped-moves (ranges t)) (sym (there c) ∙ e) ∙ one-capped (ranges t) u)
 
 -- the two configurations that a configuration of the joined record stands for
 unfoldable pub left-of : (l r : Text) → Config → Config

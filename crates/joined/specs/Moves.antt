@@ -22,9 +22,9 @@ use Rattle.clocks.specs.Meaning.{holds, invariant, after, one-if, gives, edge-m
 use Rattle.joined.specs.Joined.{pair, matching, joined-edge, edges-of, joined-text}
 use Rattle.joined.specs.Lists.{every-tab}
 use Rattle.joined.specs.Sums.{sum, move-of, edges-sum, pair-move, joined-sum}
-use Rattle.joined.specs.Both.{Both, both-right-sum, both-left-sum, both-nothing, both-if}
+use Rattle.joined.specs.Both.{Both, both-right-sum, both-left-sum, both-nothing, both-if, both-weaker}
 use Rattle.joined.specs.Paired.{Paired-steps}
-use Rattle.joined.specs.Together.{Together, ticked-location, ticked-together, after-together, both-holds, invariant-pair, invariant-both}
+use Rattle.joined.specs.Together.{Together, Together-from, together-only, ticked-location, ticked-together, after-together, after-together-from, both-holds, invariant-pair, invariant-both}
 
 -- when an edge gives a move
 pub gives-iff : (g : Constraint) (e : Edge) (v : Config) (c : ℕ) → T (gives g e v c)
@@ -127,13 +127,13 @@ module _ (f : ℕ → ℕ) (l r : Text) (x : Well-formed l) (y : Well-formed r)
         let (m, z) = gives-back p q in
         and-T (matching f a b) (gives joint (joined-edge l r a b) u c) m z)
 
-    pair-both : Both (Together l r) (pair-move f l r (move-of (joined-text f l r) u c) a b) (move-of l v c a)
+    pair-both : Both (Together-from l r u) (pair-move f l r (move-of (joined-text f l r) u c) a b) (move-of l v c a)
         (move-of r w (f c) b)
     unfolding pair-move move-of edge-move
-    pair-both = subst (λ (m : Moves). Both (Together l r) m (one-if A (after a v)) (one-if B (after b w)))
+    pair-both = subst (λ (m : Moves). Both (Together-from l r u) m (one-if A (after a v)) (one-if B (after b w)))
         (ap (λ (z : Bool). one-if z (after (joined-edge l r a b) u)) (sym gives-both) ∙ sym (tested (matching f a b)))
-        (both-if (Together l r) A B (after (joined-edge l r a b) u) (after a v) (after b w)
-        (after-together l r t few a b))
+        (both-if (Together-from l r u) A B (after (joined-edge l r a b) u) (after a v) (after b w)
+        (after-together-from l r t few a b))
       where
         A : Bool
         A = gives (invariant-of l (a .target)) a v c
@@ -148,23 +148,23 @@ module _ (f : ℕ → ℕ) (l r : Text) (x : Well-formed l) (y : Well-formed r)
         tested false = unfold one-if in refl
 
   -- the moves by a channel
-  edges-both : (c : ℕ) → Both (Together l r)
+  edges-both : (c : ℕ) → Both (Together-from l r u)
       (edge-moves (joined-text f l r) u c (joined-text f l r .«edge_count»)) (edge-moves l v c (l .«edge_count»))
       (edge-moves r w (f c) (r .«edge_count»))
   edges-both c =
       rw (joined-sum f l r u c, edges-sum l v c (l .«edge_count»), edges-sum r w (f c) (r .«edge_count»))
-      (both-left-sum (Together l r) (λ a. sum (pair-move f l r (move-of (joined-text f l r) u c) a) (edges-of r))
+      (both-left-sum (Together-from l r u) (together-only l r u) (λ a. sum (pair-move f l r (move-of (joined-text f l r) u c) a) (edges-of r))
       (move-of l v c) (sum (move-of r w (f c)) (edges-of r)) (edges-of l)
-      (every-tab (λ a. Both (Together l r) (sum (pair-move f l r (move-of (joined-text f l r) u c) a) (edges-of r))
+      (every-tab (λ a. Both (Together-from l r u) (sum (pair-move f l r (move-of (joined-text f l r) u c) a) (edges-of r))
       (move-of l v c a) (sum (move-of r w (f c)) (edges-of r))) (edge l) 0 (l .«edge_count»)
       (λ i m. rw (zero-add i) (row (edge l i) (edge-in l x i m)))))
     where
       row : (a : Edge) → Edge-in l a
-          → Both (Together l r) (sum (pair-move f l r (move-of (joined-text f l r) u c) a) (edges-of r))
+          → Both (Together-from l r u) (sum (pair-move f l r (move-of (joined-text f l r) u c) a) (edges-of r))
           (move-of l v c a) (sum (move-of r w (f c)) (edges-of r))
-      row a i = both-right-sum (Together l r) (pair-move f l r (move-of (joined-text f l r) u c) a) (move-of r w (f c))
-          (move-of l v c a) (edges-of r) (both-nothing (Together l r) (move-of l v c a))
-          (every-tab (λ b. Both (Together l r) (pair-move f l r (move-of (joined-text f l r) u c) a b) (move-of l v c a)
+      row a i = both-right-sum (Together-from l r u) (together-only l r u) (pair-move f l r (move-of (joined-text f l r) u c) a) (move-of r w (f c))
+          (move-of l v c a) (edges-of r) (both-nothing (Together-from l r u) (move-of l v c a))
+          (every-tab (λ b. Both (Together-from l r u) (pair-move f l r (move-of (joined-text f l r) u c) a b) (move-of l v c a)
           (move-of r w (f c) b)) (edge r) 0 (r .«edge_count»)
           (λ j n. rw (zero-add j) (pair-both c a (edge r j) i (edge-in r y j n))))
 
@@ -184,4 +184,6 @@ module _ (f : ℕ → ℕ) (l r : Text) (x : Well-formed l) (y : Well-formed r)
   moves-both p (suc c) n =
       let m = p .there (suc c) (record { from-one = omega arith; declared = n }) in
       rw (ne-eqb (suc c) 0 (λ e. omega arith), ne-eqb (f (suc c)) 0 (λ e. omega (arith, m .from-one)), moves)
-      (edges-both (suc c))
+      (both-weaker (Together-from l r u) (Together l r) (λ y v w q. q .together)
+      (edge-moves (joined-text f l r) u (suc c) (joined-text f l r .«edge_count»))
+      (edge-moves l v (suc c) (l .«edge_count»)) (edge-moves r w (f (suc c)) (r .«edge_count»)) (edges-both (suc c)))

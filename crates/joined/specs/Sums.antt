@@ -11,26 +11,11 @@ use Rattle.reader_record.specs.declared.Text.{Text}
 use Rattle.reader_record.specs.Record.{no-edge, edge, invariant-of}
 use Rattle.clocks.specs.declared.Config.{Config}
 use Rattle.clocks.specs.declared.Moves.{Moves}
-use Rattle.clocks.specs.declared.Moves.the-variants.{Nothing, One, Two}
+use Rattle.clocks.specs.declared.Moves.the-variants.{Nothing}
 use Rattle.clocks.specs.Meaning.{also, edge-move, edge-moves}
+use Rattle.clocks.specs.Also.{also-nothing, also-assoc}
 use Rattle.joined.specs.Joined.{matching, joined-edge, paired-with, paired, edges-of, joined-text}
 use Rattle.joined.specs.Lists.{tab-items}
-
-pub also-nothing : (m : Moves) → also m Nothing ≡ m
-unfolding also
-also-nothing Nothing = refl
-also-nothing (One v) = refl
-also-nothing Two = refl
-
-also-assoc : (a b c : Moves) → also (also a b) c ≡ also a (also b c)
-unfolding also
-also-assoc Nothing b c = refl
-also-assoc (One v) Nothing c = refl
-also-assoc (One v) (One w) Nothing = refl
-also-assoc (One v) (One w) (One u) = refl
-also-assoc (One v) (One w) Two = refl
-also-assoc (One v) Two c = refl
-also-assoc Two b c = refl
 
 -- the moves of a list, each item's by g
 unfoldable pub sum : {X : Type 0} → (X → Moves) → List X → Moves

@@ -2,7 +2,8 @@
 -- resets and ticks.
 use mathlib.Core.Path.{_≡_, refl, sym, subst, ap, _∙_}
 use mathlib.Core.Bool.{Bool, true, false, _&&_, cond}
-use Prim.Native.Nat.{ℕ, _+_, _*_, _≤_, _<_}
+use mathlib.Core.Logic.{⊎-elim}
+use Prim.Native.Nat.{ℕ, _+_, _*_, _-_, _≤_, _<_}
 use native.Mathlib.Omega.{arith}
 use lib.Dec.{T, eqb}
 use lib.Arith.{digits-div, digits-mod}
@@ -20,7 +21,8 @@ use Rattle.reader_record.specs.Formed.{Formed-constraint, Well-formed}
 use Rattle.clocks.specs.declared.Config.{Config}
 use Rattle.clocks.specs.Meaning.{clock-value, compares, met, holds, invariant, reset, after, ticked, start-of}
 use Rattle.joined.specs.Joined.{pair, shifted, both-constraints, both-resets, joined-edge, joined-text}
-use Rattle.joined.specs.Lists.{two-left, two-right}
+use Rattle.clocks.specs.Also.{equal-parts}
+use Rattle.joined.specs.Lists.{below, two-left, two-right, two-past}
 use Rattle.joined.specs.Formed.{both-count, both-left, both-right, both-each, pair-lt, invariant-at}
 
 -- the location is the pair, and the clocks are the left's, then the right's (SPECIFICATION 18.2, 18.3); nothing is said
@@ -29,6 +31,34 @@ pub record Together (l r : Text) (u v w : Config) : Type 0 where
   pub location : u .location ≡ pair (r .«location_count») (v .location) (w .location)
   pub left : (k : ℕ) → k < l .«clock_count» → clock-value u k ≡ clock-value v k
   pub right : (k : ℕ) → k < r .«clock_count» → clock-value u (l .«clock_count» + k) ≡ clock-value w k
+
+-- the same, with the clocks that neither text has as they are in x. Together alone leaves them open, so that only this
+-- fixes the configuration of the joined record
+pub record Together-from (l r : Text) (x u v w : Config) : Type 0 where
+  pub together : Together l r u v w
+  pub missing : (k : ℕ) → l .«clock_count» + r .«clock_count» ≤ k → k < clock-limit → clock-value u k ≡ clock-value x k
+
+equal-values : (u v : Config) → u .location ≡ v .location
+    → ((k : ℕ) → k < clock-limit → clock-value u k ≡ clock-value v k) → u ≡ v
+unfolding clock-value
+equal-values u v l h = equal-parts (u .location) (u .x) (u .y) (u .z) (v .location) (v .x) (v .y) (v .z) l
+    (h 0 (omega arith)) (h 1 (omega arith)) (h 2 (omega arith))
+
+pub together-only : (l r : Text) (x u y v w : Config) → Together-from l r x u v w → Together-from l r x y v w → u ≡ y
+together-only l r x u y v w s t = equal-values u y (s .together .location ∙ sym (t .together .location)) value
+  where
+    right-value : (k : ℕ) → l .«clock_count» ≤ k → k < l .«clock_count» + r .«clock_count» → clock-value u k
+        ≡ clock-value y k
+    right-value k m h =
+        let e : k ≡ l .«clock_count» + (k - l .«clock_count») = omega arith in
+        rw e (s .together .right (k - l .«clock_count») (omega arith)
+        ∙ sym (t .together .right (k - l .«clock_count») (omega arith)))
+
+    value : (k : ℕ) → k < clock-limit → clock-value u k ≡ clock-value y k
+    value k h = ⊎-elim (λ m. s .together .left k m ∙ sym (t .together .left k m))
+        (λ m. ⊎-elim (right-value k m) (λ n. s .missing k n h ∙ sym (t .missing k n h))
+        (below k (l .«clock_count» + r .«clock_count»)))
+        (below k (l .«clock_count»))
 
 -- a clock after a tick and after an edge
 pub value-ticked : (v : Config) (k : ℕ) → clock-value (ticked v) k ≡ clock-value v k + 1
@@ -79,6 +109,12 @@ module _ (l r : Text) (a b : Edge) where
       (two-right false (λ k. getD (a .resets) k false) (λ k. getD (b .resets) k false) (l .«clock_count»)
       (r .«clock_count») k h)
 
+  pub reset-missing : (k v : ℕ) → l .«clock_count» + r .«clock_count» ≤ k → reset (joined-edge l r a b) k v ≡ v
+  unfolding reset joined-edge both-resets
+  reset-missing k v h = ap (λ (t : Bool). cond t 0 v)
+      (two-past false (λ k. getD (a .resets) k false) (λ k. getD (b .resets) k false) (l .«clock_count»)
+      (r .«clock_count») k h)
+
 module _ (l r : Text) {u v w : Config} (t : Together l r u v w) where
   pub ticked-together : Together l r (ticked u) (ticked v) (ticked w)
   ticked-together = record {
@@ -104,6 +140,14 @@ module _ (l r : Text) {u v w : Config} (t : Together l r u v w) where
     where
       target-pair : joined-edge l r a b .target ≡ pair (r .«location_count») (a .target) (b .target)
       target-pair = unfold joined-edge in refl
+
+  -- and leaves the clocks that neither text has as they were
+  pub after-together-from : l .«clock_count» + r .«clock_count» ≤ clock-limit → (a b : Edge)
+      → Together-from l r u (after (joined-edge l r a b) u) (after a v) (after b w)
+  after-together-from few a b = record {
+    together = after-together few a b;
+    missing = λ k m h. value-after (joined-edge l r a b) u k h ∙ reset-missing l r a b k (clock-value u k) m;
+  }
 
   -- a comparison of the left's, and one of the right's
   pub met-left : (q : Comparison) → q .clock < l .«clock_count» → met u q ≡ met v q

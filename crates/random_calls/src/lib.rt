@@ -26,6 +26,7 @@ use enumerator::pairs::has;
 use enumerator::pairs::mark;
 use enumerator::pairs::pair_number;
 use enumerator::pairs::pairs_of;
+use enumerator::parallel::has_parallel;
 use enumerator::records::same_constants;
 use enumerator::runs::departure;
 use enumerator::runs::is_departure;
@@ -65,7 +66,14 @@ pub const JOINED: usize = 33;
 
 pub const LEFT_OUT: usize = 34;
 
-pub const TALLY: usize = 35;
+// Accepted texts with parallel edges (SPECIFICATION 7.2), pairs of them that are searched, and joined texts.
+pub const PARALLEL: usize = 35;
+
+pub const PARALLEL_PAIRS: usize = 36;
+
+pub const PARALLEL_JOINED: usize = 37;
+
+pub const TALLY: usize = 38;
 
 // The tick length at which a text is written in ticks.
 const IN_TICKS: usize = 1;
@@ -680,6 +688,18 @@ fn follow_case(a: Reading, b: Reading, c: Case, l: &[u32], r: &[u32], tally: &mu
     add(tally, DIFFERENCES, !is_right);
 }
 
+// Counts two texts with a safe left start that both have parallel edges.
+fn count_parallel(a: Reading, b: Reading, c: Case, l: &[u32], tally: &mut [usize]) {
+    let w = c.two;
+    let f = c.refusal;
+    if f.code != ACCEPTED || !is_safe(l, w.left_start) {
+        return;
+    }
+    if has_parallel(a) {
+        add(tally, PARALLEL_PAIRS, has_parallel(b));
+    }
+}
+
 // The operations on two texts, of which the left has the rows l.
 fn two_cases(
     period: usize,
@@ -698,6 +718,7 @@ fn two_cases(
     let c = Case { seed, refusal, two };
     search_case(period, left, right, c, l, &r, &mut *tally);
     follow_case(a, b, c, l, &r, &mut *tally);
+    count_parallel(a, b, c, l, &mut *tally);
     table_cases(period, left, right, c, l, &r, tally);
 }
 
@@ -802,10 +823,11 @@ pub fn read_case(
     let is_right = is_damaged || counted && known;
     let constants = got.code != ACCEPTED || same_constants(t, u);
     count_call(
-        tally,
+        &mut *tally,
         expected,
         is_right && constants && same(expected, got),
     );
+    add(tally, PARALLEL, has_parallel(r));
 }
 
 // A text in milliseconds and the same text in ticks, of both of which no refusal is known, have the same constants. What

@@ -168,6 +168,25 @@ const ROUNDINGS: usize = 81;
 
 const PERIODS: usize = 82;
 
+// What is chosen of edges that are written again. To the last ones the number of such an edge is added.
+const DOUBLING: usize = 83;
+
+const DOUBLES: usize = 84;
+
+const ORIGINALS: usize = 85;
+
+const ORDERS: usize = 86;
+
+const OPEN_DOUBLES: usize = 87;
+
+const KINDS: usize = 88;
+
+const ADDED_CLOCKS: usize = 96;
+
+const ADDED_SIGNS: usize = 104;
+
+const ADDED_BOUNDS: usize = 112;
+
 // Most texts have fewer channels of a direction, at most as many locations, and constants below this number.
 const FEW: usize = 4;
 
@@ -198,6 +217,10 @@ const WIDE_ODDS: usize = 8;
 const LARGE_ODDS: usize = 16;
 
 const SECOND_SIGN_ODDS: usize = 12;
+
+const DOUBLE_ODDS: usize = 8;
+
+const OPEN_DOUBLE_ODDS: usize = 12;
 
 const ROUNDING_ODDS: usize = 5;
 
@@ -242,8 +265,22 @@ const SIGN_COUNT: usize = 6;
 // How many of them are refused in an invariant (SPECIFICATION 3.2).
 const REFUSED_SIGNS: usize = 3;
 
-// The edges of a group, one of them doubled; the groups of a location; and the edges of the largest text, so counted.
-const GROUP_EDGES: usize = 4;
+// The kinds of edges that are written again (SPECIFICATION 7.2): the same edge; one whose guard has a comparison more;
+// one that resets a clock more or one less, where that clock is 0; one that leads to another location, by a guard that
+// never holds.
+const SAME_EDGE: usize = 0;
+
+const NARROWER: usize = 1;
+
+const OTHER_RESET: usize = 2;
+
+const ELSEWHERE: usize = 3;
+
+const EDGE_KINDS: usize = 4;
+
+// The edges of a group, three and two that are written again; the groups of a location; and the edges of the largest
+// text, so counted.
+const GROUP_EDGES: usize = 5;
 
 const LOCATION_EDGES: usize = (CHANNEL_LIMIT + 1) * GROUP_EDGES;
 
@@ -744,11 +781,8 @@ fn sign_of(g: Shape, l: usize, c: usize, j: usize) -> usize {
     EQUAL
 }
 
-// How many comparisons stand in the guard of an edge, or in the invariant of a location.
-fn comparison_count(g: Shape, l: usize, c: usize, j: usize) -> usize {
-    if c == INVARIANT {
-        return invariant_count(g, l);
-    }
+// How many comparisons stand in the guard of an edge of a group.
+fn guard_count(g: Shape, l: usize, c: usize, j: usize) -> usize {
     if sign_of(g, l, c, j) == NO_SIGN {
         return 0;
     }
@@ -759,6 +793,122 @@ fn comparison_count(g: Shape, l: usize, c: usize, j: usize) -> usize {
         return 2;
     }
     1
+}
+
+// How many edges stand beside those of a group, each like one of them. Half of the texts have some; a change brings some
+// to one place.
+fn extra_edges(g: Shape, l: usize, c: usize) -> usize {
+    let change = change_at(g, l, c);
+    if change == DROPPED_EDGE || group_size(g, l, c) == 0 {
+        return 0;
+    }
+    if change == DOUBLED_EDGE {
+        return plus(excess(g), 1);
+    }
+    if pick(g.gap, DOUBLING, 0, 0, EITHER) != 0 {
+        return 0;
+    }
+    match pick(g.gap, DOUBLES, l, c, DOUBLE_ODDS) {
+        0 | 1 => 1,
+        2 => 2,
+        _ => 0,
+    }
+}
+
+// Edges of a group are numbered from 0; those beside it follow. This is the one of the group that edge j is, or is like.
+fn original(g: Shape, l: usize, c: usize, j: usize) -> usize {
+    let n = group_size(g, l, c);
+    if j < n {
+        return j;
+    }
+    pick(g.gap, ORIGINALS, l, c, n)
+}
+
+// Whether the edges beside a group have no comparison that keeps them to what the group says: they mostly lead elsewhere.
+fn is_open(g: Shape, l: usize, c: usize) -> bool {
+    if change_at(g, l, c) == DOUBLED_EDGE {
+        return true;
+    }
+    pick(g.gap, OPEN_DOUBLES, l, c, OPEN_DOUBLE_ODDS) == 0
+}
+
+// Whether a comparison can be added to the guard of an edge.
+fn has_room(g: Shape, l: usize, c: usize, j: usize) -> bool {
+    if clocks(g) == 0 {
+        return false;
+    }
+    guard_count(g, l, c, original(g, l, c, j)) < COMPARISON_LIMIT
+}
+
+// The kind of an edge.
+fn kind_of(g: Shape, l: usize, c: usize, j: usize) -> usize {
+    let n = group_size(g, l, c);
+    if j < n {
+        return SAME_EDGE;
+    }
+    if !is_open(g, l, c) && !has_room(g, l, c, j) {
+        return SAME_EDGE;
+    }
+    pick(g.gap, plus(KINDS, minus(j, n)), l, c, EDGE_KINDS)
+}
+
+// Whether a comparison is added to the guard of an edge.
+fn is_guarded_more(g: Shape, l: usize, c: usize, j: usize) -> bool {
+    if c == INVARIANT || is_open(g, l, c) {
+        return false;
+    }
+    kind_of(g, l, c, j) != SAME_EDGE
+}
+
+// How many comparisons stand in the guard of an edge, or in the invariant of a location.
+fn comparison_count(g: Shape, l: usize, c: usize, j: usize) -> usize {
+    if c == INVARIANT {
+        return invariant_count(g, l);
+    }
+    let n = guard_count(g, l, c, original(g, l, c, j));
+    if is_guarded_more(g, l, c, j) {
+        return plus(n, 1);
+    }
+    n
+}
+
+// Whether comparison i is the one that is added.
+fn is_added(g: Shape, l: usize, c: usize, j: usize, i: usize) -> bool {
+    if !is_guarded_more(g, l, c, j) {
+        return false;
+    }
+    i == guard_count(g, l, c, original(g, l, c, j))
+}
+
+// A choice about an edge that is written again.
+fn own_choice(g: Shape, what: usize, l: usize, c: usize, j: usize, n: usize) -> usize {
+    pick(g.gap, plus(what, minus(j, group_size(g, l, c))), l, c, n)
+}
+
+// The clock of the comparison that is added; the one by which resets differ.
+fn own_clock(g: Shape, l: usize, c: usize, j: usize) -> usize {
+    own_choice(g, ADDED_CLOCKS, l, c, j, clocks(g))
+}
+
+// The sign of the comparison that is added: any, one that holds at 0 alone, or one that does not hold at 0 either.
+fn added_sign(g: Shape, l: usize, c: usize, j: usize) -> usize {
+    match kind_of(g, l, c, j) {
+        NARROWER => plus(own_choice(g, ADDED_SIGNS, l, c, j, SIGN_COUNT - 1), 1),
+        OTHER_RESET => {
+            if own_choice(g, ADDED_SIGNS, l, c, j, EITHER) == 0 {
+                return AT_MOST;
+            }
+            EQUAL
+        }
+        _ => LESS,
+    }
+}
+
+fn added_bound(g: Shape, l: usize, c: usize, j: usize) -> usize {
+    if kind_of(g, l, c, j) == NARROWER {
+        return own_choice(g, ADDED_BOUNDS, l, c, j, constants(g));
+    }
+    0
 }
 
 // A sign that is refused in an invariant.
@@ -874,12 +1024,26 @@ fn spaced_sign(buf: &mut [u8], p: Pen, g: Shape, c: usize, s: usize) -> Pen {
     sign(buf, noted_sign(q, c, s), g, s)
 }
 
-fn comparison(buf: &mut [u8], p: Pen, g: Shape, l: usize, c: usize, j: usize, i: usize) -> Pen {
+fn added_comparison(buf: &mut [u8], p: Pen, g: Shape, l: usize, c: usize, j: usize) -> Pen {
+    let mut q = clock(&mut *buf, p, g, own_clock(g, l, c, j));
+    q = spaced_sign(&mut *buf, q, g, c, added_sign(g, l, c, j));
+    constant(buf, q, g, added_bound(g, l, c, j))
+}
+
+fn own_comparison(buf: &mut [u8], p: Pen, g: Shape, l: usize, c: usize, j: usize, i: usize) -> Pen {
     let s = sign_at(g, l, c, j, i);
     let n = written_bound(g, l, c, j, i);
     let mut q = clock(&mut *buf, p, g, choice(g, plus(CLOCKS, i), l, c, clocks(g)));
     q = spaced_sign(&mut *buf, q, g, c, s);
     constant(buf, noted_bound(q, c, s, n), g, n)
+}
+
+// Comparison i of a guard or an invariant.
+fn comparison(buf: &mut [u8], p: Pen, g: Shape, l: usize, c: usize, j: usize, i: usize) -> Pen {
+    if is_added(g, l, c, j, i) {
+        return added_comparison(buf, p, g, l, c, j);
+    }
+    own_comparison(buf, p, g, l, c, original(g, l, c, j), i)
 }
 
 fn comparisons(
@@ -910,43 +1074,60 @@ fn declared(g: Shape, i: usize) -> usize {
     plus(pick(g.gap, TURNS, 0, 0, n), i) % n
 }
 
-// How many edges of a group are written: the last one may be dropped, or the first one written again.
+// How many edges are written: the last one of a group may be dropped.
 fn written_edges(g: Shape, l: usize, c: usize) -> usize {
     let n = group_size(g, l, c);
-    let change = change_at(g, l, c);
-    if change == DROPPED_EDGE && 0 < n {
+    if change_at(g, l, c) == DROPPED_EDGE && 0 < n {
         return n - 1;
     }
-    if change == DOUBLED_EDGE {
-        return plus(n, 1);
-    }
-    n
+    plus(n, extra_edges(g, l, c))
 }
 
-// Where an edge leads: one may lead to a location that is not declared.
-fn target_of(g: Shape, l: usize, c: usize, j: usize) -> usize {
-    let n = locations(g);
-    let t = choice(g, plus(TARGETS, j), l, c, n);
-    let change = change_at(g, l, c);
-    if change == OTHER_NAME {
-        return n;
+// The edge at place i: those beside a group may stand behind it, before it and between its edges.
+fn edge_of(g: Shape, l: usize, c: usize, i: usize) -> usize {
+    let n = written_edges(g, l, c);
+    if n == 0 || extra_edges(g, l, c) == 0 {
+        return i;
     }
-    if change != OTHER_TARGET {
-        return t;
-    }
+    plus(i, pick(g.gap, ORDERS, l, c, n)) % n
+}
+
+// Another location, if there is one; n of them are declared.
+fn other_location(t: usize, n: usize) -> usize {
     if plus(t, 1) < n {
         return plus(t, 1);
     }
     0
 }
 
+// Where an edge of a group leads: one may lead to a location that is not declared.
+fn own_target(g: Shape, l: usize, c: usize, j: usize) -> usize {
+    let n = locations(g);
+    let t = choice(g, plus(TARGETS, j), l, c, n);
+    match change_at(g, l, c) {
+        OTHER_NAME => n,
+        OTHER_TARGET => other_location(t, n),
+        _ => t,
+    }
+}
+
+// Where an edge leads.
+fn target_of(g: Shape, l: usize, c: usize, j: usize) -> usize {
+    let n = locations(g);
+    let t = own_target(g, l, c, original(g, l, c, j));
+    if kind_of(g, l, c, j) == ELSEWHERE && t < n {
+        return other_location(t, n);
+    }
+    t
+}
+
 // All clocks are mostly set to 0 on the way to another location with an invariant, which then holds.
-fn resets_of(g: Shape, l: usize, c: usize, j: usize) -> usize {
+fn own_resets(g: Shape, l: usize, c: usize, j: usize) -> usize {
     let r = choice(g, plus(RESETS, j), l, c, EVERY_CLOCK + 1);
     if change_at(g, l, c) == OTHER_RESETS {
         return r ^ EVERY_CLOCK;
     }
-    let t = target_of(g, l, c, j);
+    let t = own_target(g, l, c, j);
     if t == l || invariant_count(g, t) == 0 {
         return r;
     }
@@ -954,6 +1135,24 @@ fn resets_of(g: Shape, l: usize, c: usize, j: usize) -> usize {
         return r;
     }
     EVERY_CLOCK
+}
+
+// A set of one clock.
+fn only(k: usize) -> usize {
+    match k {
+        0 => 1,
+        1 => SECOND_CLOCK,
+        _ => THIRD_CLOCK,
+    }
+}
+
+// The clocks that an edge resets.
+fn resets_of(g: Shape, l: usize, c: usize, j: usize) -> usize {
+    let r = own_resets(g, l, c, original(g, l, c, j));
+    if kind_of(g, l, c, j) == OTHER_RESET {
+        return r ^ only(own_clock(g, l, c, j));
+    }
+    r
 }
 
 fn is_reset(set: usize, k: usize) -> bool {
@@ -1039,10 +1238,7 @@ fn edge_at(buf: &mut [u8], p: Pen, g: Shape, i: usize) -> Pen {
     if written_edges(g, l, c) <= j {
         return p;
     }
-    if group_size(g, l, c) <= j {
-        return edge(buf, p, g, l, c, 0);
-    }
-    edge(buf, p, g, l, c, j)
+    edge(buf, p, g, l, c, edge_of(g, l, c, j))
 }
 
 fn location_item(buf: &mut [u8], p: Pen, g: Shape, l: usize) -> Pen {

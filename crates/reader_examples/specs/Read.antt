@@ -1,5 +1,5 @@
--- The nine posts (SPECIFICATION 16.1) read to their records, at tick length 1, and Sheet at others (SPECIFICATION
--- 16.9): computed by the definition of reading.
+-- The ten posts (SPECIFICATION 16.1) and two texts of SPECIFICATION 16.10 read to their records, at tick length 1, and
+-- Sheet at others (SPECIFICATION 16.9): computed by the definition of reading.
 use mathlib.Core.Path.{_≡_, refl}
 use mathlib.Core.List.{List}
 use Prim.Native.Nat.{ℕ}
@@ -9,8 +9,8 @@ use Rattle.refusals.specs.Refusals.{constant-too-large, tick-out-of-range}
 use Rattle.reader_lists.specs.State.{no-text}
 use Rattle.reader.specs.Reading.{read-text}
 use Rattle.reader_examples.specs.Opened.{opened}
-use Rattle.reader_examples.specs.Texts.{post, rearm, early, strict, loose, sheet, hush, idle, spare}
-use Rattle.reader_examples.specs.Records.{post-record, rearm-record, early-record, strict-record, loose-record, sheet-record, hush-record, idle-record, spare-record}
+use Rattle.reader_examples.specs.Texts.{post, rearm, early, strict, loose, sheet, hush, idle, spare, twice, stay-or-go, reset-or-not}
+use Rattle.reader_examples.specs.Records.{post-record, rearm-record, early-record, strict-record, loose-record, sheet-record, hush-record, idle-record, spare-record, twice-record, stay-or-go-record, reset-or-not-record}
 use Rattle.limits.specs.Limits.{shortest-tick}
 
 abbrev pub Reads-at : ℕ → List ℕ → Text → Type 0
@@ -50,6 +50,18 @@ loose-read = refl
 pub spare-read : Reads-to spare spare-record
 unfolding opened
 spare-read = refl
+
+pub twice-read : Reads-to twice twice-record
+unfolding opened
+twice-read = refl
+
+pub stay-or-go-read : Reads-to stay-or-go stay-or-go-record
+unfolding opened
+stay-or-go-read = refl
+
+pub reset-or-not-read : Reads-to reset-or-not reset-or-not-record
+unfolding opened
+reset-or-not-read = refl
 
 -- a half goes up: 2,500 at 1,000 and 3,000 at 2,000; 2,500 at 2,000 goes down
 pub record Sheet-read : Type 0 where

@@ -1,4 +1,4 @@
--- The records of the nine texts, written out: the names by byte place and length, clocks and locations from 0, channels
+-- The records of the twelve texts, written out: the names by byte place and length, clocks and locations from 0, channels
 -- from 1.
 use mathlib.Core.Bool.{Bool, true, false}
 use mathlib.Core.List.{List, [], _∷_, _++_}
@@ -72,15 +72,20 @@ marker late ls es = record {
 abbrev wait-done : Constraint → ℕ → List Location
 wait-done wait done = location (at 66 4) wait ∷ location (at done 4) blank-constraint ∷ []
 
--- the edges of Wait and Done: whether `spike` resets x, and the guard of `late`
-abbrev timed-edges : Bool → Constraint → List Edge
-timed-edges spike late =
-    edge 0 1 blank-constraint (Input 1) false
-    ∷ edge 0 0 blank-constraint (Input 2) spike
+-- the edges of Wait and Done: the first, and those behind it by whether `spike` resets x and by the guard of `late`
+abbrev first-edge : Edge
+first-edge = edge 0 1 blank-constraint (Input 1) false
+
+abbrev later-edges : Bool → Constraint → List Edge
+later-edges spike late =
+    edge 0 0 blank-constraint (Input 2) spike
     ∷ edge 0 1 late (Output 3) false
     ∷ edge 1 1 blank-constraint (Input 1) false
     ∷ edge 1 1 blank-constraint (Input 2) false
     ∷ []
+
+abbrev timed-edges : Bool → Constraint → List Edge
+timed-edges spike late = first-edge ∷ later-edges spike late
 
 -- Post and five others: the invariant of Wait, the place of Done, and the two edges differ
 abbrev timed : Constraint → ℕ → Bool → Constraint → Text
@@ -133,3 +138,18 @@ hush-record = marker direction.Unused (wait-done (x-is AtMost 3) 83) hushed
 -- no invariant, so that Done stands earlier in the text
 abbrev pub idle-record : Text
 idle-record = marker direction.Unused (wait-done blank-constraint 72) hushed
+
+-- one edge more, behind the first
+abbrev with-edge : Edge → Text
+with-edge second =
+    marker direction.Output (wait-done (x-is AtMost 3) 83) (first-edge ∷ second ∷ later-edges false (x-is AtLeast 3))
+
+-- the first edge again; an edge to Wait; the first edge with x reset
+abbrev pub twice-record : Text
+twice-record = with-edge first-edge
+
+abbrev pub stay-or-go-record : Text
+stay-or-go-record = with-edge (edge 0 0 blank-constraint (Input 1) false)
+
+abbrev pub reset-or-not-record : Text
+reset-or-not-record = with-edge (edge 0 1 blank-constraint (Input 1) true)

@@ -1,4 +1,4 @@
--- The nine posts (SPECIFICATION 16.1), byte by byte.
+-- The ten posts (SPECIFICATION 16.1) and two texts of SPECIFICATION 16.10, byte by byte.
 use mathlib.Core.List.{List, [], _∷_, _++_}
 use Prim.Native.Nat.{ℕ}
 use Prim.Native.Char.{code}
@@ -10,9 +10,9 @@ abbrev pub lines : List String → List ℕ
 lines [] = []
 lines (l ∷ ls) = bytes l ++ (code "\n" ∷ lines ls)
 
--- what Post and five others have in common: the locations, the edge of `spike` from Wait and that of `late` differ
-abbrev marker : String → String → String → List ℕ
-marker locations spike late =
+-- what the posts have in common: their locations and edges differ
+abbrev posted : String → List String → List ℕ
+posted locations edges =
     lines
     ("broadcast chan pass, spike, late;"
     ∷ "process Post() {"
@@ -20,13 +20,17 @@ marker locations spike late =
     ∷ locations
     ∷ "init Wait;"
     ∷ "trans"
-    ∷ "Wait -> Done { sync pass?; },"
+    ∷ (edges ++ ("}" ∷ "system Post;" ∷ [])))
+
+-- Post and five others: the locations, the edge of `spike` from Wait and that of `late` differ
+abbrev marker : String → String → String → List ℕ
+marker locations spike late =
+    posted locations
+    ("Wait -> Done { sync pass?; },"
     ∷ spike
     ∷ late
     ∷ "Done -> Done { sync pass?; },"
     ∷ "Done -> Done { sync spike?; };"
-    ∷ "}"
-    ∷ "system Post;"
     ∷ [])
 
 abbrev pub post : List ℕ
@@ -77,58 +81,53 @@ sheet =
     "Wait -> Done { guard x >= 2500; sync late!; },"
 
 -- the third edge is left out (SPECIFICATION 16.1)
-abbrev pub hush : List ℕ
-hush =
-    lines
-    ("broadcast chan pass, spike, late;"
-    ∷ "process Post() {"
-    ∷ "clock x;"
-    ∷ "state Wait { x <= 3 }, Done;"
-    ∷ "init Wait;"
-    ∷ "trans"
-    ∷ "Wait -> Done { sync pass?; },"
+abbrev without-late : List String
+without-late =
+    "Wait -> Done { sync pass?; },"
     ∷ "Wait -> Wait { sync spike?; },"
     ∷ "Done -> Done { sync pass?; },"
     ∷ "Done -> Done { sync spike?; };"
-    ∷ "}"
-    ∷ "system Post;"
-    ∷ [])
+    ∷ []
 
--- the third edge and the invariant are left out (SPECIFICATION 16.1)
+abbrev pub hush : List ℕ
+hush = posted "state Wait { x <= 3 }, Done;" without-late
+
+-- and so is the invariant (SPECIFICATION 16.1)
 abbrev pub idle : List ℕ
-idle =
-    lines
-    ("broadcast chan pass, spike, late;"
-    ∷ "process Post() {"
-    ∷ "clock x;"
-    ∷ "state Wait, Done;"
-    ∷ "init Wait;"
-    ∷ "trans"
-    ∷ "Wait -> Done { sync pass?; },"
-    ∷ "Wait -> Wait { sync spike?; },"
-    ∷ "Done -> Done { sync pass?; },"
-    ∷ "Done -> Done { sync spike?; };"
-    ∷ "}"
-    ∷ "system Post;"
-    ∷ [])
+idle = posted "state Wait, Done;" without-late
 
 -- a third location, which no edge leads to (SPECIFICATION 16.1, 16.8)
 abbrev pub spare : List ℕ
 spare =
-    lines
-    ("broadcast chan pass, spike, late;"
-    ∷ "process Post() {"
-    ∷ "clock x;"
-    ∷ "state Wait { x <= 3 }, Done, Off { x <= 0 };"
-    ∷ "init Wait;"
-    ∷ "trans"
-    ∷ "Wait -> Done { sync pass?; },"
+    posted "state Wait { x <= 3 }, Done, Off { x <= 0 };"
+    ("Wait -> Done { sync pass?; },"
     ∷ "Wait -> Wait { sync spike?; },"
     ∷ "Wait -> Done { guard x >= 3; sync late!; },"
     ∷ "Done -> Done { sync pass?; },"
     ∷ "Done -> Done { sync spike?; },"
     ∷ "Off -> Off { sync pass?; },"
     ∷ "Off -> Off { sync spike?; };"
-    ∷ "}"
-    ∷ "system Post;"
     ∷ [])
+
+-- Post with one edge more, behind the first (SPECIFICATION 16.10)
+abbrev with-edge : String → List ℕ
+with-edge second =
+    posted "state Wait { x <= 3 }, Done;"
+    ("Wait -> Done { sync pass?; },"
+    ∷ second
+    ∷ "Wait -> Wait { sync spike?; },"
+    ∷ "Wait -> Done { guard x >= 3; sync late!; },"
+    ∷ "Done -> Done { sync pass?; },"
+    ∷ "Done -> Done { sync spike?; };"
+    ∷ [])
+
+-- the first edge a second time (SPECIFICATION 16.1, 16.10)
+abbrev pub twice : List ℕ
+twice = with-edge "Wait -> Done { sync pass?; },"
+
+-- another edge for `pass`, which leads elsewhere: to Wait, and to Done with x reset (SPECIFICATION 16.10)
+abbrev pub stay-or-go : List ℕ
+stay-or-go = with-edge "Wait -> Wait { sync pass?; },"
+
+abbrev pub reset-or-not : List ℕ
+reset-or-not = with-edge "Wait -> Done { sync pass?; assign x = 0; },"

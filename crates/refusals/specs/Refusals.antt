@@ -58,7 +58,7 @@ too-many-states states = record { code = 9; file = left-file; p = states; q = 0 
 abbrev pub input-without-move : ℕ → ℕ → Refusal
 input-without-move state channel = record { code = 10; file = left-file; p = state; q = channel }
 
--- 11: a state in which two edges give a move by one channel (SPECIFICATION 7.2)
+-- 11: a state in which two edges give moves by one channel that lead to different states (SPECIFICATION 7.2)
 abbrev pub two-edges : ℕ → ℕ → Refusal
 two-edges state channel = record { code = 11; file = left-file; p = state; q = channel }
 

@@ -5,7 +5,7 @@ ghost use Prim.Native.Nat.{_≤_, _<_};
 ghost use lib.ListN.{length};
 
 // The room of the input; the contract below says its length.
-const ROOM: usize = 131072;
+const ROOM: usize = 262144;
 
 const ZERO: u8 = b'0';
 
@@ -20,7 +20,7 @@ const LARGEST_TENTH: usize = 1844674407370955161;
 
 // It stands behind a function because antt must not unfold an array of this length.
 pub fn room() -> [u8; ROOM]
-    ensures { λ r. ⌜ length r ≡ 131072 ⌝ }
+    ensures { λ r. ⌜ length r ≡ 262144 ⌝ }
 {
     [0u8; ROOM]
 }

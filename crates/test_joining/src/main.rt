@@ -25,7 +25,7 @@ const FILL: u8 = 165;
 const SLICE_ROOM: usize = 40000;
 
 // The room of the input; the contract below says its length.
-const INPUT_ROOM: usize = 262144;
+const INPUT_ROOM: usize = 524288;
 
 // The room of the slices that a search borrows.
 const ENTRY_ROOM: usize = 131072;
@@ -230,7 +230,7 @@ fn show_all(s: &[u8]) {
 
 // It stands behind a function because antt must not unfold an array of this length.
 fn input_room() -> [u8; INPUT_ROOM]
-    ensures { λ r. ⌜ length r ≡ 262144 ⌝ }
+    ensures { λ r. ⌜ length r ≡ 524288 ⌝ }
 {
     [0u8; INPUT_ROOM]
 }

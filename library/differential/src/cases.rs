@@ -3,8 +3,8 @@
 use boundary::ONLY_TICK;
 use plain::TICK_LIMIT;
 use texts::kinds::{departing, texts, Kind, KINDS};
-use texts::{at_a_limit, damaged, joinable, noise, passive, relay, urgent, Model, Random, Reach};
-use texts::{early, hush, idle, loose, post, rearm, sheet, spare, strict};
+use texts::{at_a_limit, damaged, each_edge_twice, joinable, noise, passive, relay, urgent, Model, Random, Reach};
+use texts::{early, hush, idle, loose, post, rearm, sheet, spare, strict, twice};
 use texts::{in_milliseconds, with_other_numeral};
 
 /// Larger products are only tried with slices too short for them, to keep the run short.
@@ -44,7 +44,8 @@ fn at_tick_length(random: &mut Random, tick_length: usize, text: Vec<u8>) -> Vec
     }
 }
 
-/// One text at a tick length: mostly accepted, else with a fault, at a limit, or noise.
+/// One text at a tick length: mostly accepted, a random one, a post or a joined one, else with a fault, at a limit, or
+/// noise.
 pub fn text(random: &mut Random, tick_length: usize) -> Vec<u8> {
     let text = text_of_ticks(random);
     at_tick_length(random, tick_length, text)
@@ -58,18 +59,30 @@ fn text_of_ticks(random: &mut Random) -> Vec<u8> {
         }
         50..=74 => damaged(random),
         75..=89 => at_a_limit(random),
-        90..=93 => noise(random),
-        _ => random.pick(&[post(), rearm(), early(), hush(), idle(), strict(), loose(), spare(), sheet()]).clone(),
+        90..=92 => noise(random),
+        93..=95 => joined(random),
+        _ => random.pick(&[post, rearm, early, hush, idle, strict, loose, spare, sheet, twice])(),
     }
 }
 
-/// One text for the implementation check: any one as above, one of a kind, one of up to 4,096 states of which all, few or
-/// a line are reached, or one that is an implementation or near one.
+/// Two texts joined, or the left one where they cannot be.
+fn joined(random: &mut Random) -> Vec<u8> {
+    let (left, right) = joinable(random);
+    let mut out = vec![0; plain::TEXT_LIMIT];
+    match plain::join(ONLY_TICK, &left, &right, &mut out) {
+        Ok(length) => out[..length].to_vec(),
+        Err(_) => left,
+    }
+}
+
+/// One text for the implementation check: any one as above, one of a kind, now and then with each edge twice, one of up
+/// to 4,096 states of which all, few or a line are reached, or one that is an implementation or near one.
 pub fn text_to_judge(random: &mut Random, tick_length: usize) -> Vec<u8> {
     let text = match random.below(100) {
         0..=39 => text_of_ticks(random),
-        40..=44 => kinds_of_ticks(random).0,
-        45..=46 => {
+        40..=44 => kinds_of_ticks(random, LARGE).0,
+        45 => twice_of_ticks(random, LARGE).0,
+        46 => {
             let reach = *random.pick(&[Reach::All, Reach::Few, Reach::Fault]);
             passive(random.between(3, 64), random.between(3, 16), reach)
         }
@@ -87,7 +100,8 @@ fn both_at_tick_length(random: &mut Random, tick_length: usize, (left, right): T
     (at_tick_length(random, tick_length, left), at_tick_length(random, tick_length, right))
 }
 
-/// Two texts at a tick length: near ones, equal ones, ones that share only their channels or not even those.
+/// Two texts at a tick length: near ones, equal ones, ones of which one has parallel edges more, ones that share only
+/// their channels or not even those.
 pub fn two_texts(random: &mut Random, tick_length: usize) -> Texts {
     let texts = two_of_ticks(random);
     both_at_tick_length(random, tick_length, texts)
@@ -95,7 +109,7 @@ pub fn two_texts(random: &mut Random, tick_length: usize) -> Texts {
 
 /// Two texts of a kind at a tick length.
 pub fn two_of_a_kind(random: &mut Random, tick_length: usize) -> Texts {
-    let texts = kinds_of_ticks(random);
+    let texts = kinds_of_ticks(random, LARGE);
     both_at_tick_length(random, tick_length, texts)
 }
 
@@ -104,8 +118,10 @@ fn two_of_ticks(random: &mut Random) -> Texts {
     let right = Model::random(random, locations);
     let left = match random.below(100) {
         0..=39 => right.varied(random),
-        40..=49 => right.clone(),
-        50..=64 => {
+        40..=44 => right.clone(),
+        45..=49 => right.with_parallel_edges(random),
+        50..=51 => return twice_of_ticks(random, SMALL),
+        52..=64 => {
             let mut channels = right.channels.clone();
             random.shuffle(&mut channels);
             Model::with_channels(random, channels, 4)
@@ -121,10 +137,14 @@ fn two_of_ticks(random: &mut Random) -> Texts {
     }
 }
 
-/// Two texts of a kind of 4 to 720 states, in either order; now and then the left is that of another kind.
-fn kinds_of_ticks(random: &mut Random) -> Texts {
+/// The most states of a text of a kind, by turns; the fewest are 4.
+const LARGE: &[usize] = &[40, 150, 720];
+const SMALL: &[usize] = &[20, 40, 150];
+
+/// Two texts of a kind, in either order; now and then the left is that of another kind.
+fn kinds_of_ticks(random: &mut Random, sizes: &[usize]) -> Texts {
     let kind = *random.pick(&KINDS);
-    let most = *random.pick(&[40, 150, 720]);
+    let most = *random.pick(sizes);
     let (states, clocks, channels) = (random.between(4, most), random.between(1, 3), random.between(2, 16));
     let make = if channels > 2 && random.chance(25) { departing } else { texts };
     let (left, right) = make(kind, states, clocks, channels);
@@ -137,11 +157,22 @@ fn kinds_of_ticks(random: &mut Random) -> Texts {
     }
 }
 
+/// Two such texts of which each edge of one, or of both, stands there twice, where there can be so many.
+fn twice_of_ticks(random: &mut Random, sizes: &[usize]) -> Texts {
+    let (left, right) = kinds_of_ticks(random, sizes);
+    let doubled = |text: Vec<u8>| each_edge_twice(&text).unwrap_or(text);
+    match random.below(3) {
+        0 => (doubled(left), right),
+        1 => (left, doubled(right)),
+        _ => (doubled(left), doubled(right)),
+    }
+}
+
 /// Two texts to be joined at a tick length: mostly ones that can be or that are near a limit, else any as above.
 pub fn two_to_join(random: &mut Random, tick_length: usize) -> Texts {
     let texts = match random.below(10) {
         0..=6 => joinable(random),
-        7 => kinds_of_ticks(random),
+        7 => kinds_of_ticks(random, LARGE),
         _ => two_of_ticks(random),
     };
     both_at_tick_length(random, tick_length, texts)

@@ -8,7 +8,10 @@ use std::fmt::Debug;
 use texts::Random;
 
 /// What a call returns that is no refusal.
-const SUCCESS: usize = 0;
+pub const SUCCESS: usize = 0;
+
+/// What is given beside the texts.
+const TABLE: &str = "table";
 
 /// Entries after a lent slice; no call may touch them.
 const BEYOND: usize = 16;
@@ -16,6 +19,8 @@ const BEYOND: usize = 16;
 /// A call that was made: what it returned, and every difference found.
 pub struct Made {
     pub returned: Returned,
+    /// What the other returned.
+    pub other: Returned,
     pub differences: Vec<String>,
     /// What was given, for a report.
     pub tick_length: usize,
@@ -31,9 +36,15 @@ struct Both {
 
 impl Made {
     fn new(both: Both, tick_length: usize, given: Vec<(&'static str, Vec<u8>)>, lengths: String) -> Made {
-        let mut made = Made { returned: both.library, differences: Vec::new(), tick_length, given, lengths };
+        let mut made =
+            Made { returned: both.library, other: both.other, differences: Vec::new(), tick_length, given, lengths };
         made.compare("returned", &both.library, &both.other);
         made
+    }
+
+    /// The texts that were given, in the order of their file marks.
+    pub fn texts(&self) -> impl Iterator<Item = &[u8]> {
+        self.given.iter().filter(|(what, _)| *what != TABLE).map(|(_, bytes)| &bytes[..])
     }
 
     fn compare<T: PartialEq + Debug + ?Sized>(&mut self, what: &str, library: &T, other: &T) {
@@ -217,7 +228,7 @@ pub fn check(random: &mut Random, other: &dyn Operations, given: Given) -> Made 
         library: Build::LINKED.check(tick_length, &left, &right, of_library.slice(), &table),
         other: other.check(tick_length, &left, &right, of_other.slice(), &table),
     };
-    let given = vec![("left", left), ("right", right), ("table", table)];
+    let given = vec![("left", left), ("right", right), (TABLE, table)];
     let mut made = Made::new(both, tick_length, given, format!("keep {length}"));
     made.compare_lent("keep", &of_library, &of_other);
     made

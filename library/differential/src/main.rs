@@ -7,16 +7,20 @@
 //! With the word `before` the library is compared with an older build of it instead, a shared object that
 //! MEGZHOI_BEFORE names, on pairs of texts by kind and random ones; MEGZHOI_PAIRS is their number (4,000).
 //! MEGZHOI_STRICT=0 passes over pairs with a strict sign, for an older build that does not read it. Whether the older
-//! build takes a tick length is seen from what it answers; where it does not, both are called with 1.
+//! build takes a tick length is seen from what it answers; where it does not, both are called with 1. Where it refuses
+//! parallel edges with 11, the library is compared with plain Rust (before.rs).
 
 #![forbid(unsafe_code)]
 
+mod before;
 mod cases;
 mod compare;
+mod counts;
 
-use boundary::{Build, ByPairs, Operations, ONLY_TICK};
+use boundary::{ByPairs, Operations};
 use cases::Given;
 use compare::Made;
+use counts::Counts;
 use std::panic::{catch_unwind, AssertUnwindSafe};
 use std::process::ExitCode;
 use texts::Random;
@@ -107,24 +111,8 @@ fn texts_to_join(random: &mut Random, tick_length: impl Fn(&mut Random) -> usize
     Given { tick_length, left, right }
 }
 
-/// The calls made on each pair of texts to hold two builds against each other, by their place in `OPERATIONS`:
-/// one table is made, and several tables, whole and damaged ones, are checked.
-const ON_A_PAIR: [(usize, OnTwoTexts); 8] = [
-    (WIDEST, compare::widest),
-    (SEARCH, compare::search),
-    (CHECK, compare::check),
-    (CHECK, compare::check),
-    (CHECK, compare::check),
-    (CHECK, compare::check),
-    (CHECK, compare::check),
-    (CHECK, compare::check),
-];
-
 /// Under this many calls a code may be missing by chance.
 const ENOUGH: u64 = 50_000;
-
-/// How often each code occurred, by operation, code, with 0 for success, and file mark.
-type Counts = [[[u64; 3]; 1 + plain::codes::ALL.len()]; OPERATIONS.len()];
 
 fn number(name: &str, default: u64) -> u64 {
     std::env::var(name).map_or(default, |value| value.parse().expect("a number"))
@@ -132,7 +120,7 @@ fn number(name: &str, default: u64) -> u64 {
 
 fn main() -> ExitCode {
     match std::env::args().nth(1).as_deref() {
-        Some("before") => boundary::on_large_stack(run_before),
+        Some("before") => boundary::on_large_stack(before::run),
         _ => boundary::on_large_stack(run),
     }
 }
@@ -144,7 +132,7 @@ fn random_of(seed: u64) -> Random {
 /// Random calls, compared with plain Rust.
 fn run() -> ExitCode {
     let (calls, first) = (number("MEGZHOI_CALLS", 200_000), number("MEGZHOI_SEED", 1));
-    let mut counts: Counts = Default::default();
+    let mut counts = Counts::default();
     for seed in (0..calls).map(|i| first.wrapping_add(i)) {
         let random = &mut random_of(seed);
         let operation = random.below(OPERATIONS.len());
@@ -153,8 +141,8 @@ fn run() -> ExitCode {
             return ExitCode::FAILURE;
         }
     }
-    print_counts(&counts);
-    let missing = missing(&counts);
+    counts.print();
+    let missing = counts.missing();
     if calls >= ENOUGH && !missing.is_empty() {
         println!("NEVER SEEN: {}", missing.join("; "));
         return ExitCode::FAILURE;
@@ -163,100 +151,7 @@ fn run() -> ExitCode {
     ExitCode::SUCCESS
 }
 
-/// Whether the bytes have a strict sign: a `<` or `>` that is no part of `<=`, `>=` or `->`.
-fn has_strict_sign(text: &[u8]) -> bool {
-    let is_sign = |i: usize| match text[i] {
-        b'<' => text.get(i + 1) != Some(&b'='),
-        b'>' => text.get(i + 1) != Some(&b'=') && (i == 0 || text[i - 1] != b'-'),
-        _ => false,
-    };
-    (0..text.len()).any(is_sign)
-}
-
-/// The linked library and an older build on pairs by kind and, every fourth, on random ones.
-fn run_before() -> ExitCode {
-    let Some(before) = Build::before() else {
-        println!("MEGZHOI_BEFORE names no older build");
-        return ExitCode::FAILURE;
-    };
-    let (pairs, first) = (number("MEGZHOI_PAIRS", 4_000), number("MEGZHOI_SEED", 1));
-    let strict = number("MEGZHOI_STRICT", 1) != 0;
-    let mut counts: Counts = Default::default();
-    let mut passed_over = 0;
-    for seed in (0..pairs).map(|i| first.wrapping_add(i)) {
-        let random = &mut random_of(seed);
-        let given = pair_for(&before, random);
-        if !strict && (has_strict_sign(&given.left) || has_strict_sign(&given.right)) {
-            passed_over += 1;
-            continue;
-        }
-        if !agrees_on_a_pair(&mut counts, &before, random, &given) {
-            println!("repeat with MEGZHOI_SEED={seed} MEGZHOI_PAIRS=1");
-            return ExitCode::FAILURE;
-        }
-    }
-    print_counts(&counts);
-    if !has_implementation(&before) {
-        println!("the older build has no implementation check, and that of this one was not compared");
-    }
-    if !has_join(&before) {
-        println!("the older build does not join texts, and what this one joins was not compared");
-    }
-    if !before.takes_tick_length() {
-        println!("the older build takes no tick length, and both were called with {ONLY_TICK}");
-    }
-    let compared = pairs - passed_over;
-    println!("{compared} pairs of texts from seed {first}: no difference from the older build");
-    ExitCode::SUCCESS
-}
-
-/// A tick length that the older build can be called with.
-fn tick_length_for(before: &Build, random: &mut Random) -> usize {
-    match before.takes_tick_length() {
-        true => cases::tick_length(random),
-        false => ONLY_TICK,
-    }
-}
-
-/// Two texts of a kind or, every fourth time, random ones.
-fn pair_for(before: &Build, random: &mut Random) -> Given {
-    let tick_length = tick_length_for(before, random);
-    let make = if random.chance(75) { cases::two_of_a_kind } else { cases::two_texts };
-    let (left, right) = make(random, tick_length);
-    Given { tick_length, left, right }
-}
-
-/// An older build may lack the implementation check; what it says of an empty text does not matter here.
-fn has_implementation(before: &Build) -> bool {
-    before.implementation(ONLY_TICK, &[]).is_some()
-}
-
-/// An older build may be without the joining; what it says of empty texts does not matter here.
-fn has_join(before: &Build) -> bool {
-    before.join(ONLY_TICK, &[], &[], &mut []).is_some()
-}
-
-/// The calls on two texts and, where the older build has them, the implementation check of both and of a third one, and
-/// the joining of the two and of two others.
-fn agrees_on_a_pair(counts: &mut Counts, before: &Build, random: &mut Random, given: &Given) -> bool {
-    for (operation, call) in ON_A_PAIR {
-        if !agrees(counts, operation, || call(random, before, given.clone())) {
-            return false;
-        }
-    }
-    let judge =
-        |text: &Vec<u8>| compare::implementation(before, given.tick_length, text.clone()).expect("both have it");
-    let third = cases::text_to_judge(random, given.tick_length);
-    let mut to_judge = [&given.left, &given.right, &third].into_iter().filter(|_| has_implementation(before));
-    if !to_judge.all(|text| agrees(counts, IMPLEMENTATION, || judge(text))) {
-        return false;
-    }
-    let others = texts_to_join(random, |random| tick_length_for(before, random));
-    let mut to_join = [given.clone(), others].into_iter().filter(|_| has_join(before));
-    to_join.all(|given| agrees(counts, JOIN, || compare::join(random, before, given).expect("both have it")))
-}
-
-/// Makes a call and counts its code; where the two differ, or one panics, reports it and says no.
+/// Makes a call and counts what it came to; where the two differ, or one panics, reports it and says no.
 fn agrees(counts: &mut Counts, operation: usize, call: impl FnOnce() -> Made) -> bool {
     let name = OPERATIONS[operation].name;
     let Ok(made) = catch_unwind(AssertUnwindSafe(call)) else {
@@ -268,7 +163,7 @@ fn agrees(counts: &mut Counts, operation: usize, call: impl FnOnce() -> Made) ->
         report(&made);
         return false;
     }
-    counts[operation][made.returned.code][made.returned.file] += 1;
+    counts.add(operation, &made);
     true
 }
 
@@ -279,36 +174,4 @@ fn report(made: &Made) {
         println!("{what} ({} bytes): {}", bytes.len(), bytes.escape_ascii());
     }
     made.differences.iter().take(8).for_each(|difference| println!("{difference}"));
-}
-
-fn print_counts(counts: &Counts) {
-    println!("Calls by operation and code (file mark 2 in brackets):");
-    for (operation, by_code) in OPERATIONS.iter().zip(counts) {
-        let entry = |(code, by_file): (usize, &[u64; 3])| {
-            let [of_none, of_left, of_right] = by_file;
-            let right = if *of_right > 0 { format!(" ({of_right})") } else { String::new() };
-            (of_none + of_left + of_right > 0).then(|| format!("{code}: {}{right}", of_none + of_left + of_right))
-        };
-        let entries: Vec<String> = by_code.iter().enumerate().filter_map(entry).collect();
-        if !entries.is_empty() {
-            println!("{}: {}", operation.name, entries.join(", "));
-        }
-    }
-}
-
-/// Codes that can occur and did not; 1 to 12 have to occur for either text.
-fn missing(counts: &Counts) -> Vec<String> {
-    let mut missing = Vec::new();
-    for (operation, by_code) in OPERATIONS.iter().zip(counts) {
-        for code in operation.codes {
-            let marks: &[usize] = match code {
-                1..=12 if operation.two_texts => &[1, 2],
-                1..=12 | 17 | 22 | 23 => &[1],
-                _ => &[0],
-            };
-            let absent = marks.iter().filter(|mark| by_code[*code][**mark] == 0);
-            missing.extend(absent.map(|mark| format!("{} {code} with file {mark}", operation.name)));
-        }
-    }
-    missing
 }

@@ -193,6 +193,22 @@ pub fn join(tick_length: usize, left: &[u8], right: &[u8], out: &mut [u8]) -> Re
     Ok(text.len())
 }
 
+/// Whether a text is accepted and has parallel edges (SPECIFICATION 7.2).
+pub fn has_parallel_edges(tick_length: usize, text: &[u8]) -> bool {
+    read_one(tick_length, text).is_ok_and(|(record, _)| moves::edges_meet(&record))
+}
+
+/// Whether in a state of a text, accepted or not, two edges or more give moves by a channel, all of which lead to one
+/// state: the edges are parallel there.
+pub fn are_parallel_at(tick_length: usize, text: &[u8], state: usize, channel: usize) -> bool {
+    let judged = judge_tick(tick_length).and_then(|()| judge_length(text, 1));
+    let Some(record) = judged.ok().and_then(|()| reader::read(tick_length, text).ok()) else {
+        return false;
+    };
+    let reached = moves::reached(&record, state, channel);
+    reached.len() > 1 && reached.iter().all(|other| *other == reached[0])
+}
+
 /// Code 24, before anything is looked at.
 fn judge_tick(tick_length: usize) -> Result<(), Refusal> {
     if (1..=TICK_LIMIT).contains(&tick_length) {

@@ -133,13 +133,14 @@ fn posts() {
 /// A joined text is accepted, and refines both wherever it has an implementation; what refines both refines it.
 #[test]
 fn random_pairs() {
-    let (mut written, mut held) = (0, 0);
+    let (mut written, mut parallel, mut held) = (0, 0, 0);
     for seed in 0..4_000 {
         let random = &mut Random::new(seed);
         let (left, right) = joinable(random);
         let Ok(text) = joined(TICK, &left, &right) else { continue };
         written += 1;
         let states = read(TICK, &text).expect("an accepted text").states;
+        parallel += usize::from(plain::has_parallel_edges(TICK, &text));
         if states * read(TICK, &left).unwrap().states.max(read(TICK, &right).unwrap().states) > 60_000 {
             continue;
         }
@@ -151,5 +152,6 @@ fn random_pairs() {
             assert_eq!(steps(&left, &text), Ok(0), "seed {seed}");
         }
     }
-    assert!(written > 1_500 && held > 800, "{written} written, {held} held");
+    println!("{written} written, {parallel} of them with parallel edges, {held} held");
+    assert!(written > 1_500 && parallel > 500 && held > 800, "{written} written, {parallel} parallel, {held} held");
 }

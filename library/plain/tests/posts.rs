@@ -147,8 +147,6 @@ fn refused_texts() {
     let place = String::from_utf8(post()).unwrap().find("x >= 3").unwrap() + 5;
     assert_eq!(read(TICK, &with("x >= 3", "x >= 1001")), Err(refused(6, 1, place, 0)));
     assert_eq!(read(TICK, &with(",\nDone -> Done { sync spike?; }", "")), Err(refused(10, 1, 5, 2)));
-    let second = "trans\nWait -> Done { sync pass?; },";
-    assert_eq!(read(TICK, &with("trans", second)), Err(refused(11, 1, 0, 1)));
 }
 
 #[test]

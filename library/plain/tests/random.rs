@@ -17,9 +17,28 @@ fn show(text: &[u8]) -> String {
     String::from_utf8_lossy(text).into_owned()
 }
 
-/// Compares code 10 or 11 and the safe states; says whether the text is accepted.
+/// Where several edges give moves by a channel, compares whether they are parallel there; says whether any are.
+fn compare_parallel(naive: &Naive, text: &[u8]) -> bool {
+    let mut meet = false;
+    for state in naive.states.iter().filter(|state| naive.valid(state)) {
+        for (i, channel) in naive.channels().into_iter().enumerate() {
+            let led = naive.led(state, channel);
+            if led.len() > 1 {
+                let alike = led.iter().all(|other| *other == led[0]);
+                let number = naive.number(state);
+                assert_eq!(plain::are_parallel_at(TICK, text, number, i + 1), alike, "{number} {i} {}", show(text));
+                meet = true;
+            }
+        }
+    }
+    meet
+}
+
+/// Compares code 10 or 11, where the edges are parallel, and the safe states; says whether the text is accepted.
 fn compare_one(model: &Model, text: &[u8]) -> bool {
     let naive = Naive::new(model);
+    let meet = compare_parallel(&naive, text);
+    assert_eq!(plain::has_parallel_edges(TICK, text), meet && naive.fault().is_none(), "{}", show(text));
     let answer = plain::read(TICK, text);
     if let Some((code, state, channel)) = naive.fault() {
         let refusal = plain::Refusal { code, file: 1, p: state, q: channel };
@@ -81,7 +100,7 @@ fn compare_two(left: &Model, right: &Model, texts: (&[u8], &[u8])) -> Option<usi
 #[test]
 fn fast_and_naive_agree() {
     let random = &mut Random::new(7);
-    let (mut accepted, mut departing, mut refining) = (0, 0, 0);
+    let (mut accepted, mut parallel, mut departing, mut refining) = (0, 0, 0, 0);
     for _ in 0..2_500 {
         let right = Model::random(random, 3);
         let left = if random.chance(70) { right.varied(random) } else { right.clone() };
@@ -92,6 +111,7 @@ fn fast_and_naive_agree() {
             continue;
         }
         accepted += 1;
+        parallel += usize::from([&texts.0, &texts.1].into_iter().any(|text| plain::has_parallel_edges(TICK, text)));
         let small = Naive::new(&left).states.len() * Naive::new(&right).states.len() < 6_000;
         match small.then(|| compare_two(&left, &right, (&texts.0, &texts.1))).flatten() {
             Some(0) => refining += 1,
@@ -99,14 +119,14 @@ fn fast_and_naive_agree() {
             None => (),
         }
     }
-    println!("accepted {accepted}, departing {departing}, refining {refining}");
-    assert!(accepted > 500 && departing > 100 && refining > 100);
+    println!("accepted {accepted}, with parallel edges {parallel}, departing {departing}, refining {refining}");
+    assert!(accepted > 500 && parallel > 300 && departing > 100 && refining > 100);
 }
 
 #[test]
 fn implementations() {
     let random = &mut Random::new(11);
-    let (mut implementations, mut both, mut neither) = (0, 0, 0);
+    let (mut implementations, mut parallel, mut both, mut neither) = (0, 0, 0, 0);
     for _ in 0..4_000 {
         let locations = random.between(1, 4);
         let model = match random.below(4) {
@@ -118,12 +138,15 @@ fn implementations() {
         if !compare_one(&model, &text) {
             continue;
         }
+        parallel += usize::from(plain::has_parallel_edges(TICK, &text));
         match compare_implementation(&model, &text) {
             0 => implementations += 1,
             OUTPUT_BESIDE_TICK => both += 1,
             _ => neither += 1,
         }
     }
-    println!("implementations {implementations}, both possible {both}, neither {neither}");
-    assert!(implementations > 1_000 && both > 500 && neither > 500);
+    println!(
+        "implementations {implementations}, both possible {both}, neither {neither}; parallel edges in {parallel} texts"
+    );
+    assert!(implementations > 1_000 && both > 500 && neither > 500 && parallel > 500);
 }

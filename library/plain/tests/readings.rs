@@ -105,17 +105,21 @@ fn strict_constants_count_as_written() {
     assert_eq!(read(TICK, with_invariant("x < 5").as_bytes()).unwrap().states, 7);
 }
 
-/// Code and state for an input that has an edge by each of the guards (an empty one: no guard).
+/// Code, state and channel for an input that has an edge by each of the guards (an empty one: no guard). Every second
+/// edge resets the clock where they are to lead to different states.
+fn by_guards(guards: &[&str], lead_elsewhere: bool) -> Option<(usize, usize, usize)> {
+    let edge = |(i, guard): (usize, &&str)| {
+        let guard = if guard.is_empty() { String::new() } else { format!("guard {guard};") };
+        let assign = if lead_elsewhere && i % 2 == 1 { "assign x = 0;" } else { "" };
+        format!("L -> L {{ {guard} sync a?; {assign} }}")
+    };
+    let edges: Vec<String> = guards.iter().enumerate().map(edge).collect();
+    read(TICK, with_edges(&edges.join(", ")).as_bytes()).err().map(|refusal| (refusal.code, refusal.p, refusal.q))
+}
+
 #[test]
 fn strict_guards_of_an_input() {
-    let edge = |guard: &&str| match guard.is_empty() {
-        true => "L -> L { sync a?; }".to_string(),
-        false => format!("L -> L {{ guard {guard}; sync a?; }}"),
-    };
-    let judged = |guards: &[&str]| {
-        let edges: Vec<String> = guards.iter().map(edge).collect();
-        read(TICK, with_edges(&edges.join(", ")).as_bytes()).err().map(|refusal| (refusal.code, refusal.p, refusal.q))
-    };
+    let judged = |guards: &[&str]| by_guards(guards, true);
     assert_eq!(judged(&["x < 3", "x >= 3"]), None);
     assert_eq!(judged(&["x <= 3", "x > 3"]), None);
     assert_eq!(judged(&["x < 3", "x == 3", "x > 3"]), None);
@@ -126,6 +130,15 @@ fn strict_guards_of_an_input() {
     assert_eq!(judged(&["x <= 3", "x > 2"]), Some((11, 3, 1)));
     assert_eq!(judged(&["x < 4", "x >= 3"]), Some((11, 3, 1)));
     assert_eq!(judged(&["x < 3", "x >= 3", "x > 3"]), Some((11, 4, 1)));
+}
+
+/// Where the guards meet, the edges are parallel: no fault (SPECIFICATION 7.2).
+#[test]
+fn strict_guards_of_parallel_edges() {
+    for guards in [&["x <= 3", "x > 2"][..], &["x < 4", "x >= 3"], &["x < 3", "x >= 3", "x > 3"], &["", "", "x == 2"]] {
+        assert_eq!(by_guards(guards, false), None, "{guards:?}");
+    }
+    assert_eq!(by_guards(&["x < 3", "x <= 2", "x > 3"], false), Some((10, 3, 1)));
 }
 
 #[test]

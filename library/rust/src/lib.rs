@@ -117,6 +117,25 @@ fn with_stack<T: Send>(call: impl FnOnce() -> T + Send) -> T {
 /// assert_eq!(read(4, text)?.locations[0].invariant[0].bound, 1);
 /// # Ok::<(), Refusal>(())
 /// ```
+///
+/// Two edges that give moves by one channel make one move where they lead to one state; elsewhere the text is refused.
+///
+/// ```
+/// use megzhoi::{read, Code};
+///
+/// # fn main() -> Result<(), Box<dyn std::error::Error>> {
+/// # let twice = std::fs::read_to_string(concat!(env!("CARGO_MANIFEST_DIR"), "/../../examples/Twice.xta"))?;
+/// // examples/Twice.xta has the edge for `pass` from Wait to Done two times.
+/// assert_eq!(read(1, twice.as_bytes())?.states, 10);
+///
+/// // If the second one resets the clock, they lead to one state where the clock is at 0, and not where it is at 1.
+/// let edge = "Wait -> Done { sync pass?; }";
+/// let resetting = twice.replacen(edge, "Wait -> Done { sync pass?; assign x = 0; }", 1);
+/// let refusal = read(1, resetting.as_bytes()).unwrap_err();
+/// assert_eq!((refusal.code, refusal.p, refusal.q), (Code::TwoEdges, 1, 1));
+/// # Ok(())
+/// # }
+/// ```
 pub fn read(tick_length: usize, text: &[u8]) -> Result<Record, Refusal> {
     // SAFETY: the thread has STACK bytes of stack; this holds for the others below too.
     with_stack(|| unsafe { here::read(tick_length, text) })
@@ -246,7 +265,8 @@ pub fn widest(
 
 /// Joins two texts with equal channels: writes into `out` one that a system satisfies exactly if it satisfies both, and
 /// gives the number of its bytes. Its constants are ticks whatever the tick length of the two was, so it is to be read
-/// with tick length 1. No joined text has more than [`TEXT_LIMIT`] bytes.
+/// with tick length 1. No joined text has more than [`TEXT_LIMIT`] bytes. Each matching pair of edges is written,
+/// parallel ones too.
 ///
 /// ```
 /// use megzhoi::{join, queue_entries, read, search, Code, KEEP_BYTES, TEXT_LIMIT};

@@ -5,6 +5,9 @@ use std::fmt;
 
 /// Why a call was refused. The numbers, names and texts are those of `megzhoi.h`.
 ///
+/// [`Code::TwoEdges`] is about two edges that give moves by one channel in one state and lead to different states:
+/// another location, or a clock that differs after the resets. Edges that lead to one state make one move.
+///
 /// ```
 /// use megzhoi::Code;
 ///
@@ -96,7 +99,7 @@ impl Code {
             Code::OtherMark => "the channel was used with the other mark before",
             Code::TooManyStates => "the text has more than 4,096 states",
             Code::InputWithoutMove => "an input has no move",
-            Code::TwoEdges => "two edges give a move for one channel",
+            Code::TwoEdges => "two edges give moves by one channel and lead to different states",
             Code::UnmatchedChannel => "the other text lacks the channel, or uses it in the other direction",
             Code::KeepTooShort => "keep is too short",
             Code::TableTooShort => "the table to write is too short",

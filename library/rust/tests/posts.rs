@@ -55,10 +55,23 @@ fn spare() -> String {
     changed(&located, "};\n}", "},\nOff -> Off { sync pass?; },\nOff -> Off { sync spike?; };\n}")
 }
 
-/// The repository's own, with constants in milliseconds.
+/// The edge of the posts that Twice has a second time.
+const PASS: &str = "Wait -> Done { sync pass?; }";
+
+/// A post with these edges in place of its first one.
+fn post_with(edges: &[&str]) -> String {
+    changed(POST, PASS, &edges.join(",\n"))
+}
+
+/// One of the repository's own.
+fn example(name: &str) -> Vec<u8> {
+    let path = format!("{}/../../examples/{name}.xta", env!("CARGO_MANIFEST_DIR"));
+    std::fs::read(&path).unwrap_or_else(|error| panic!("{path}: {error}"))
+}
+
+/// With constants in milliseconds.
 fn sheet() -> Vec<u8> {
-    let path = concat!(env!("CARGO_MANIFEST_DIR"), "/../../examples/Sheet.xta");
-    std::fs::read(path).unwrap_or_else(|error| panic!("{path}: {error}"))
+    example("Sheet")
 }
 
 /// A refusal by its four numbers.
@@ -233,8 +246,6 @@ fn refused_texts() {
     assert_eq!(read(TICK, over.as_bytes()), refused(6, 1, over.find("1001").unwrap(), 0));
     let without = changed(POST, ",\nDone -> Done { sync spike?; }", "");
     assert_eq!(read(TICK, without.as_bytes()), refused(10, 1, 5, 2));
-    let twice = changed(POST, "trans\n", "trans\nWait -> Done { sync pass?; },\n");
-    assert_eq!(read(TICK, twice.as_bytes()), refused(11, 1, 0, 1));
 }
 
 #[test]
@@ -262,6 +273,54 @@ fn refusals_read() {
     assert_eq!(shown(checked(&[])), "code 16: the table's header or length is not that of these texts");
     let error: Box<dyn std::error::Error> = Box::new(read(TICK, b"").unwrap_err());
     assert!(error.source().is_none());
+}
+
+/// SPECIFICATION 16.10.
+#[test]
+fn twice() {
+    let twice = post_with(&[PASS, PASS]);
+    assert_eq!(twice.as_bytes(), example("Twice"));
+    let record = read(TICK, twice.as_bytes()).unwrap();
+    assert_eq!((record.states, record.edges.len()), (10, 6));
+    assert_eq!(record.edges[0], record.edges[1]);
+    let mut keep = [0xff; 3];
+    let safe = safe_states(TICK, twice.as_bytes(), &mut keep).unwrap();
+    assert_eq!((safe.count, safe.start, keep), (9, true, [0xf7, 0xc0, 0xff]));
+    assert_eq!(implementation(TICK, twice.as_bytes()), Ok(()));
+    let mut of_post = [0; 29];
+    widest(TICK, POST.as_bytes(), POST.as_bytes(), &mut [0; 2], &mut of_post).unwrap();
+    for (left, right) in [(&twice[..], POST), (POST, &twice[..]), (&twice[..], &twice[..])] {
+        assert_eq!(count(left, right), Ok(0));
+        let mut made = [0; 29];
+        let answer = widest(TICK, left.as_bytes(), right.as_bytes(), &mut [0; 2], &mut made).unwrap();
+        assert_eq!((answer.pairs, answer.start, made), (29, true, of_post));
+        assert_eq!(check(TICK, left.as_bytes(), right.as_bytes(), &mut [0; 2], &made), Ok(29));
+    }
+    let text = joined(TICK, twice.as_bytes(), twice.as_bytes()).unwrap();
+    assert_eq!(text.matches("l0 -> l3 { sync pass ? ; }").count(), 4);
+    assert_eq!((count(&text, POST), count(POST, &text)), (Ok(0), Ok(0)));
+}
+
+/// Of two or three edges one leads elsewhere, in whatever order they stand (SPECIFICATION 16.10).
+#[test]
+fn edges_to_different_states() {
+    let staying = "Wait -> Wait { sync pass?; }";
+    let resetting = "Wait -> Done { sync pass?; assign x = 0; }";
+    let states = |edges: &[&str]| read(TICK, post_with(edges).as_bytes()).map(|record| record.states);
+    for (other, state) in [(staying, 0), (resetting, 1)] {
+        for edges in
+            [&[PASS, other][..], &[other, PASS], &[PASS, PASS, other], &[PASS, other, PASS], &[other, PASS, PASS]]
+        {
+            assert_eq!(states(edges), refused(11, 1, state, 1), "{edges:?}");
+        }
+        for edges in [&[other, other, PASS][..], &[other, PASS, other], &[PASS, other, other]] {
+            assert_eq!(states(edges), refused(11, 1, state, 1), "{edges:?}");
+        }
+    }
+    assert_eq!(states(&[PASS, PASS, PASS]), Ok(10));
+    let shown = read(TICK, post_with(&[PASS, staying]).as_bytes()).unwrap_err().to_string();
+    let text = "two edges give moves by one channel and lead to different states";
+    assert_eq!(shown, format!("code 11, left or only text: {text} (state 0, channel 1)"));
 }
 
 /// SPECIFICATION 16.9.

@@ -40,7 +40,7 @@ fn texts() -> Vec<(Vec<u8>, Vec<u8>)> {
     vec![
         (post(), post()),
         (full_of_tokens(), full_of_tokens()),
-        (full_of_edges(8), full_of_edges(8)),
+        (full_of_edges(8, 16), full_of_edges(8, 16)),
         drifting(10, 16, Kind::Departing),
         drifting(64, 4, Kind::Refining),
         drifting(64, 4, Kind::Departing),

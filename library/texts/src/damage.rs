@@ -73,7 +73,8 @@ pub fn damaged(random: &mut Random) -> Vec<u8> {
     join(&tokens, random)
 }
 
-/// A fault in what the text says: a mark, a name, a constant, a sign, or an edge too many or too few.
+/// A fault in what the text says: a mark, a name, a constant, a sign, an edge too few, or one by the same channel that
+/// leads elsewhere.
 fn misstate(random: &mut Random, model: &mut Model) {
     let names = names(model);
     let name = random.pick(&names).clone();
@@ -85,7 +86,7 @@ fn misstate(random: &mut Random, model: &mut Model) {
     let i = random.below(count);
     match random.below(10) {
         0 => model.edges[i].input = !model.edges[i].input,
-        1 => model.edges.insert(random.below(count), model.edges[i].clone()),
+        1 => model.double_one(random, false),
         2 => drop(model.edges.remove(i)),
         3 => model.edges[i].channel = name,
         4 => model.edges[i].target = name,

@@ -33,7 +33,8 @@ pub fn joinable(random: &mut Random) -> Texts {
     let (left, right) = match random.below(100) {
         0..=79 => alike(random),
         80..=82 => two_of(*random.pick(&LOCATIONS), located),
-        83..=85 => two_of(*random.pick(&EDGES), with_edges),
+        83..=84 => two_of(*random.pick(&EDGES), with_edges),
+        85 => two_of(*random.pick(&EDGES), with_parallel_edges),
         86..=88 => two_of(*random.pick(&VALUES), valued),
         89..=90 => two_of(near(random, CLOCK_LIMIT), with_clocks),
         91..=93 => compared(random),
@@ -54,7 +55,8 @@ fn near(random: &mut Random, limit: usize) -> (usize, usize) {
     (first, limit + over - first)
 }
 
-/// Two random models over the same channels, each in its own order; most have no more clocks together than one may.
+/// Two random models over the same channels, each in its own order; most have no more clocks together than one may, and
+/// some have parallel edges.
 fn alike(random: &mut Random) -> (Model, Model) {
     let mut names = NAMES;
     random.shuffle(&mut names);
@@ -98,6 +100,11 @@ fn located(count: usize) -> Model {
 
 fn with_edges(count: usize) -> Model {
     Model { edges: (0..count).map(|value| output(vec![comparison("x", "==", value)])).collect(), ..bare() }
+}
+
+/// All edges are parallel, and so are those of the joined text.
+fn with_parallel_edges(count: usize) -> Model {
+    Model { edges: vec![output(vec![comparison("x", ">=", 1)]); count], ..bare() }
 }
 
 fn valued(values: usize) -> Model {

@@ -13,6 +13,8 @@ pub fn at_a_limit(random: &mut Random) -> Vec<u8> {
         2 => model.channels.extend((1..16 + over).map(|i| (format!("d{i}"), false))),
         3 => model.clocks.extend((1..3 + over).map(|i| format!("y{i}"))),
         4 => model.locations.extend((1..32 + over).map(|i| (format!("M{i}"), Vec::new()))),
+        // All of them parallel, or no two at one time.
+        5 if random.chance(30) => model.edges = vec![output("==", 2); 128 + over],
         5 => model.edges = (0..128 + over).map(|i| output("==", i)).collect(),
         6 => model.locations[0].1 = vec![comparison(*random.pick(&INVARIANT_SIGNS), 3); 4 + over],
         7 => model.edges[0].guard = vec![comparison(*random.pick(&SIGNS), 3); 4 + over],

@@ -30,6 +30,9 @@ pub struct Model {
     pub edges: Vec<Edge>,
 }
 
+/// Of a hundred random models, how many have edges doubled.
+const DOUBLED: usize = 35;
+
 pub const SIGNS: [&str; 5] = ["<=", ">=", "==", "<", ">"];
 pub const INVARIANT_SIGNS: [&str; 2] = ["<=", "<"];
 
@@ -48,7 +51,7 @@ impl Comparison {
 
 impl Model {
     /// A random model of at most `locations` locations with small constants, whose inputs are complete
-    /// and whose outputs do not meet, but for a small share.
+    /// and whose edges by one channel do not meet, but for parallel ones and a small share of others.
     pub fn random(random: &mut Random, locations: usize) -> Model {
         let count = random.below(5);
         let channels = (0..count).map(|i| (format!("c{i}"), random.chance(50))).collect();
@@ -81,6 +84,9 @@ impl Model {
         for i in 0..count {
             model.add_edges(random, i);
         }
+        if random.chance(DOUBLED) {
+            model.double_some(random);
+        }
         model
     }
 
@@ -89,7 +95,7 @@ impl Model {
         [0, 6, 2, 1][self.clocks.len()]
     }
 
-    fn comparisons(&self, random: &mut Random, most: usize, signs: &[&'static str]) -> Vec<Comparison> {
+    pub(crate) fn comparisons(&self, random: &mut Random, most: usize, signs: &[&'static str]) -> Vec<Comparison> {
         if self.clocks.is_empty() {
             return Vec::new();
         }
@@ -164,7 +170,8 @@ impl Model {
         Edge { source, target, guard, channel: channel.to_string(), input, resets }
     }
 
-    /// A model near this one: a constant, an edge, an invariant or a reset differs, or only the order or the signs.
+    /// A model near this one: a constant, an edge, an invariant or a reset differs, an edge is doubled, or only the
+    /// order or the signs differ.
     pub fn varied(&self, random: &mut Random) -> Model {
         let mut model = self.clone();
         for _ in 0..random.between(1, 4) {
@@ -184,7 +191,7 @@ impl Model {
 
     fn vary(&mut self, random: &mut Random) {
         let clocks = self.clocks.clone();
-        match random.below(7) {
+        match random.below(8) {
             0 => self.edges.retain(|edge| edge.input || random.chance(70)),
             1 if !self.edges.is_empty() => {
                 let index = random.below(self.edges.len());
@@ -208,6 +215,7 @@ impl Model {
                 self.locations[index].1.clear();
             }
             5 => self.restate_some(random),
+            6 => self.double_some(random),
             _ => self.vary_output(random),
         }
     }

@@ -1,4 +1,4 @@
-//! The nine posts of SPECIFICATION 16.1.
+//! The ten posts of SPECIFICATION 16.1.
 
 fn build(bound: usize, invariant: bool, late: bool, rearm: bool) -> Vec<u8> {
     let wait = if invariant { format!("Wait {{ x <= {bound} }}") } else { "Wait".to_string() };
@@ -59,6 +59,12 @@ pub fn spare() -> Vec<u8> {
 /// Bounds in milliseconds: at a tick length of 1,000 those of the post.
 pub fn sheet() -> Vec<u8> {
     changed(&[("x <= 3", "x <= 3000"), ("x >= 3", "x >= 2500")])
+}
+
+/// The first edge a second time, behind the first.
+pub fn twice() -> Vec<u8> {
+    const PASS: &str = "Wait -> Done { sync pass?; },\n";
+    changed(&[(PASS, &PASS.repeat(2))])
 }
 
 /// The post with parts replaced, each of which must be there.

@@ -169,11 +169,11 @@ pub fn short_rows(values: usize, channels: usize) -> Vec<u8> {
     text("x, y, z", &names, "L", &edges)
 }
 
-/// 128 edges with four comparisons each, filled up with spaces to 32,768 bytes. The clocks have
-/// `values` and `values` / 2 values, and there are 8 locations.
-pub fn full_of_edges(values: usize) -> Vec<u8> {
+/// 8 × `channels` edges with four comparisons each, 128 for 16 channels, filled up with spaces to 32,768 bytes. The
+/// clocks have `values` and `values` / 2 values, and there are 8 locations.
+pub fn full_of_edges(values: usize, channels: usize) -> Vec<u8> {
     let (top, second) = (values - 2, values / 2 - 2);
-    let names: Vec<String> = (0..16).map(|i| format!("c{i}")).collect();
+    let names: Vec<String> = (0..channels).map(|i| format!("c{i}")).collect();
     let locations: Vec<String> = (0..8).map(|i| if i == 0 { "L".to_string() } else { format!("L{i}") }).collect();
     let mut edges = Vec::new();
     for (i, location) in locations.iter().enumerate() {

@@ -3,6 +3,9 @@
 use crate::model::{Comparison, Edge, Model};
 use crate::random::Random;
 
+/// Of a hundred models, how many have parallel edges.
+const DOUBLED: usize = 25;
+
 /// A random model of one to `locations` locations and one to three clocks that is an implementation. A location rests,
 /// without an invariant and an output, or waits: one clock has a deadline, and outputs come at that time alone. An edge
 /// to another location sets the clock of that one's deadline to 0. Which locations are reached is left to chance.
@@ -26,7 +29,10 @@ pub fn urgent(random: &mut Random, locations: usize) -> Model {
         let edges = edges(random, &model, i);
         model.edges.extend(edges);
     }
-    model
+    match random.chance(DOUBLED) {
+        true => model.with_parallel_edges(random),
+        false => model,
+    }
 }
 
 /// A bound of one clock from above, by either sign; the more clocks, the smaller, to keep the number of states small.

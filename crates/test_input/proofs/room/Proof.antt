@@ -5,7 +5,7 @@ use Rattle.test_input.proofs.room.Statement.{statement}
 use Rattle.test_input.proofs.room.Tie as tie
 
 returns : tie.Need-returns
-returns c = length-replicate {0} {A = ℕ} 131072 0
+returns c = length-replicate {0} {A = ℕ} 262144 0
 
 pub room-spec : {M : Type 1} → statement M
 room-spec = tie.close (tie.spec returns)

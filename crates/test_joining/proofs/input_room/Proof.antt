@@ -5,7 +5,7 @@ use Rattle.test_joining.proofs.input_room.Statement.{statement}
 use Rattle.test_joining.proofs.input_room.Tie as tie
 
 returns : tie.Need-returns
-returns c = length-replicate {0} {A = ℕ} 262144 0
+returns c = length-replicate {0} {A = ℕ} 524288 0
 
 pub input-room-spec : {M : Type 1} → statement M
 input-room-spec = tie.close (tie.spec returns)
