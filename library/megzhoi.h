@@ -52,7 +52,7 @@ enum {
     MEGZHOI_NAME_TOO_LONG = 3,       /* (byte place, 0) */
     MEGZHOI_DECLARED_BEFORE = 4,     /* (byte place, 0) */
     MEGZHOI_UNKNOWN_NAME = 5,        /* (byte place, 0): also where `system` names another process */
-    MEGZHOI_CONSTANT_TOO_LARGE = 6,  /* (byte place, 0): over the limit in ticks */
+    MEGZHOI_CONSTANT_TOO_LARGE = 6,  /* (byte place, 0): over the limit in ticks, in an assignment too */
     MEGZHOI_TOO_MANY_ITEMS = 7,      /* (byte place, 0): of the first item over a limit, at its first name */
     MEGZHOI_OTHER_MARK = 8,          /* (byte place, 0): of the channel's name in the later use */
     MEGZHOI_TOO_MANY_STATES = 9,     /* (states, 0) */
@@ -127,7 +127,7 @@ static inline const char *megzhoi_code_text(size_t code) {
 
 /* The record of a text as numbers (SPECIFICATION 15.2); crates/reader_numbers/specs/Numbers.antt defines it. */
 enum {
-    MEGZHOI_RECORD_ENTRIES = 3100,
+    MEGZHOI_RECORD_ENTRIES = 3868,
 
     MEGZHOI_CHANNEL_COUNT = 0,
     MEGZHOI_CLOCK_COUNT = 1,
@@ -146,11 +146,15 @@ enum {
     MEGZHOI_LOCATIONS = 60,
     MEGZHOI_LOCATION_ENTRIES = 15,
     /* 128 edges: source, target, mark (1 input, 2 output), channel from 1, number of comparisons, 4 comparisons,
-       and for each of 3 clocks 1 where the edge sets it to 0 */
+       3 assignments, one for each clock */
     MEGZHOI_EDGES = 540,
-    MEGZHOI_EDGE_ENTRIES = 20,
+    MEGZHOI_EDGE_ENTRIES = 26,
     /* a comparison: clock from 0, sign (MEGZHOI_AT_MOST, ..), constant in ticks */
-    MEGZHOI_COMPARISON_ENTRIES = 3
+    MEGZHOI_COMPARISON_ENTRIES = 3,
+    /* an assignment: 1 where the edge sets the clock, else 0; the value that it sets it to, which is that of the last
+       assignment; the largest value that is written, which counts towards the clock's values also where a later
+       assignment overrides it. Both are in ticks, and 0 where the edge does not set the clock. */
+    MEGZHOI_ASSIGNMENT_ENTRIES = 3
 };
 
 /* The sign of a comparison in the record. */

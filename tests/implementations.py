@@ -20,9 +20,11 @@ def neither(state):
     return 23, 1, state, 0
 
 
-def edge(ends, label, guard="", reset=""):
+def edge(ends, label, guard="", assign=""):
+    """Each word of `assign` is a clock, which is set to 0, or a clock and its value: `x y=3`."""
     before = f"guard {guard}; " if guard else ""
-    after = f" assign {', '.join(f'{clock} = 0' for clock in reset.split())};" if reset else ""
+    pairs = [word.partition("=") for word in assign.split()]
+    after = f" assign {', '.join(f'{clock} = {value or 0}' for clock, _, value in pairs)};" if pairs else ""
     return f"{ends} {{ {before}sync {label};{after} }}"
 
 
@@ -104,7 +106,7 @@ def behind():
     """One way only leads to the fault: an input, an output, ticks, or one after another."""
     stay_b = edge("B -> B", "i?")
     early, at_two = edge("A -> A", "i?", "x < 2"), edge("A -> B", "i?", "x >= 2")
-    return [(unit("A, B { x <= 0 }", edge("A -> B", "i?", reset="x"), stay_b), neither(2)),
+    return [(unit("A, B { x <= 0 }", edge("A -> B", "i?", assign="x"), stay_b), neither(2)),
             (unit("A, B", edge("A -> B", "i?"), stay_b, edge("B -> B", "o!")), both(2, 2)),
             (unit("A, B", early, at_two, stay_b, edge("B -> B", "o!")), both(6, 2)),  # an input at x = 2, and B with x = 2
             (unit("A, B", early, edge("A -> B", "i?", "x >= 2", "x"), stay_b, edge("B -> B", "o!")), both(4, 2)),  # B with x = 0
@@ -130,13 +132,13 @@ def unreachable():
             (unit("A { x <= 2 }, B", edge("A -> B", "o!", "x >= 2"), loop_b), YES),  # B never has x below 2
             (unit("A { x <= 2 }, B", edge("A -> B", "o!", "x >= 2", "x"), loop_b), both(4, 3)),
             (unit("A", stay, together, clocks="x, y"), YES),  # x and y go together
-            (unit("A", edge("A -> A", "i?", reset="x"), together, clocks="x, y"), both(2, 2))]
+            (unit("A", edge("A -> A", "i?", assign="x"), together, clocks="x, y"), both(2, 2))]
 
 
 def cycles():
     """States that are reachable only by going round, with clocks that are reset at different times."""
     ring = [edge(f"{a} -> {b}", "o!", "x >= 1", "x") for a, b in ("AB", "BC", "CA")]
-    swing = [edge("A -> B", "i?", reset="x"), edge("B -> A", "i?", reset="y")]
+    swing = [edge("A -> B", "i?", assign="x"), edge("B -> A", "i?", assign="y")]
     turn_x, turn_y = edge("A -> A", "o!", "x >= 2", "x"), edge("A -> A", "p!", "y >= 3", "y")
     return [(unit("A { x <= 1 }, B { x <= 1 }, C { x <= 1 }", *ring), YES),
             # A again after three ticks
@@ -171,7 +173,7 @@ def more_clocks():
 
 def two_faults():
     """A state with a tick beside an output and one with neither: the lower one is given, whichever a run meets first."""
-    out, stay, enter = edge("A -> A", "o!", "x >= 2", "x"), edge("B -> B", "i?"), edge("A -> B", "i?", reset="x")
+    out, stay, enter = edge("A -> A", "o!", "x >= 2", "x"), edge("B -> B", "i?"), edge("A -> B", "i?", assign="x")
     late_enter = [edge("A -> B", "i?", "x >= 3", "x"), edge("A -> A", "i?", "x < 3")]
     a, b = "A { x <= 3 }", "B { x <= 0 }"
     return [(unit(f"{a}, {b}", out, enter, stay), both(2, 2)), (unit(f"{b}, {a}", out, enter, stay, init="A"), neither(0)),
@@ -179,7 +181,7 @@ def two_faults():
             (unit(f"{a}, {b}", out, *late_enter, stay), both(2, 2)),
             (unit(a, edge("A -> A", "o!", "x == 1")), both(1, 2)),  # at x = 1 both, at x = 3 neither
             # i at x = 2 leaves neither with y = 0; with y = 3 and x = 0 both are possible
-            (unit("A { x <= 2 }", edge("A -> A", "i?", reset="y"), edge("A -> A", "o!", "x >= 2 && y > 0", "x"),
+            (unit("A { x <= 2 }", edge("A -> A", "i?", assign="y"), edge("A -> A", "o!", "x >= 2 && y > 0", "x"),
                   edge("A -> A", "p!", "x == 0 && y == 3"), clocks="x, y"), neither(2))]
 
 

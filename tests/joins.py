@@ -31,7 +31,7 @@ def declaring(channels, clocks="", locations=1):
     """A text that declares these; an edge for the first channel, if there is one."""
     places = ", ".join(f"A{i}" for i in range(locations))
     first = channels.split(",")[0]
-    edges = [edge("A0 -> A0", first + "!", reset=clocks.split(",")[0])] if first else []
+    edges = [edge("A0 -> A0", first + "!", assign=clocks.split(",")[0])] if first else []
     return unit(places, *edges, clocks=clocks, channels=channels)
 
 
@@ -116,7 +116,7 @@ def together():
              ("Idle", "Idle"): True, ("Rearm", "Rearm"): True, ("Strict", "Loose"): True, ("Spare", "Post"): True,
              ("Hush", "Idle"): False, ("Loose", "Spare"): True, ("Rearm", "Loose"): False}
     turned = swapped(POSTS["Early"], (b"pass, spike, late", b"late, pass, spike"))
-    wait, stop = unit("A, B { x <= 1 }", edge("A -> B", "i?", reset="x"), edge("B -> B", "i?")), "A { x <= 2 }"
+    wait, stop = unit("A, B { x <= 1 }", edge("A -> B", "i?", assign="x"), edge("B -> B", "i?")), "A { x <= 2 }"
     first, second = edge("A -> A", "o!", "x == 2", "x"), edge("A -> A", "p!", "x == 2", "x")
     return [*((POSTS[a], POSTS[b], is_met) for (a, b), is_met in known.items()),
             (POSTS["Loose"], turned, True), (turned, POSTS["Loose"], True), (turned, POST, False),

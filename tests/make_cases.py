@@ -18,6 +18,7 @@ from pathlib import Path
 
 import implementations
 import joins
+import late_clocks
 import parallel_edges
 import reference as ref
 import tick_lengths
@@ -32,7 +33,7 @@ BUFFER = 262144  # the bytes of stdin that test_reader, test_clocks and test_imp
 JOINING = dict(data=524288, slice=40000, entries=131072, run=512)  # the room that test_joining has
 LONG = ref.LIMITS["text"]
 # the posts of SPECIFICATION 16.2 to 16.6
-PAIRED = {name: text for name, text in POSTS.items() if name not in ("Loose", "Spare", "Sheet", "Joined", "Twice")}
+PAIRED = {name: text for name, text in POSTS.items() if name not in ("Loose", "Spare", "Sheet", "Joined", "Twice", "Woken")}
 
 
 def summed(items):
@@ -362,6 +363,30 @@ def parallel_pairs(cases):
             cases.call("W", keep=2, room=29)
 
 
+def late_pairs(cases):
+    """SPECIFICATION 16.11: Woken against every post, on either side. Then pairs with late clocks, each with its run, and what is refused."""
+    woken, overridden = late_clocks.WOKEN, late_clocks.woken("assign x = 7, x = 1;")
+    for other in [*PAIRED.values(), POSTS["Twice"], woken]:
+        two_texts(cases, woken, other)
+        two_texts(cases, other, woken)
+    for text in (woken, overridden):
+        cases.texts(text, text)
+        for letter in "RS":
+            cases.call(letter)
+        t = ref.read(TICK, text)
+        for pairs in ({(s, s) for s in t.safe()}, {(0, 0)}, {(s, s) for s in t.safe()} - {(1, 1)}):
+            cases.call("C", keep=3, table=ref.header(t.count, t.count) + ref.raster(pairs, t.count, t.count))
+    for tick, left, right, run in [*((TICK, *case) for case in late_clocks.pairs()), *late_clocks.pairs_at_tick_lengths()]:
+        two_texts(cases, left, right, tick_length=tick)
+        departs(tick, left, right, run)
+    for text, line in late_clocks.posts():
+        if line.startswith(" refused"):
+            cases.texts(text, POST)
+            cases.call("D", keep=2, back=100, line=100, run=3)
+            cases.texts(woken, text)
+            cases.call("W", keep=2, room=29)
+
+
 def plain_lines(left, right):
     """The lines of the calls over two texts."""
     cases = Cases()
@@ -461,7 +486,7 @@ def case_bytes(cases):
 
 def readings(count=265, scaled=80, seed=3):
     """Reading and safe states: the examples, known readings, each fault, limits, random texts; at other tick lengths than 1; parallel
-    edges."""
+    edges; late clocks."""
     rng = random.Random(seed)
     texts = [*PAIRED.values(), *(t for t, _ in known_readings() + strict_readings()), *faults().values(), *boundary_readings()]
     texts += [random_reading(rng) for _ in range(count - len(texts))]
@@ -469,7 +494,8 @@ def readings(count=265, scaled=80, seed=3):
     for _ in range(scaled):
         tick = random_length(rng)
         cases.append((tick, in_milliseconds(rng, random_reading(rng), tick)))
-    cases += [*((TICK, t) for t, _ in parallel_edges.readings()), *((tick, t) for tick, t, _ in parallel_edges.at_tick_lengths())]
+    for found in (parallel_edges, late_clocks):
+        cases += [*((TICK, t) for t, _ in found.readings()), *((tick, t) for tick, t, _ in found.at_tick_lengths())]
     lines = [reading_line(*case) for case in cases]
     (CRATES / "test_clocks" / "stdin").write_bytes(case_bytes(cases))
     (CRATES / "test_clocks" / "stdout").write_text("\n".join(lines) + "\n")
@@ -494,8 +520,8 @@ def random_implementations(rng, each):
 
 
 def implementation_cases(seed=9, each=4):
-    """The implementation check: texts with known answers, each fault of reading, random texts; at other tick lengths than 1; parallel edges.
-    A line ends with `same`: nothing that the program compares may differ."""
+    """The implementation check: texts with known answers, each fault of reading, random texts; at other tick lengths than 1; parallel edges;
+    late clocks. A line ends with `same`: nothing that the program compares may differ."""
     known = [*((TICK, *case) for case in implementations.known()), *implementations.at_tick_lengths()]
     for tick, text, answer in known:
         assert ref.implementation(tick, text) == answer, (tick, text, answer, ref.implementation(tick, text))
@@ -506,7 +532,8 @@ def implementation_cases(seed=9, each=4):
         tick = random_length(rng)
         cases.append((tick, in_milliseconds(rng, text, tick)))
         assert ref.implementation(*cases[-1]) == ref.implementation(TICK, text)
-    cases += [(TICK, text) for text, _ in parallel_edges.implementations()]
+    cases += [(TICK, text) for text, _ in parallel_edges.implementations() + late_clocks.implementations()]
+    cases += [(tick, text) for tick, text, _ in late_clocks.implementations_at_tick_lengths()]
     answers = [ref.implementation(*case) for case in cases]
     lines = ["refused %d %d %d %d same" % a if a else "yes same" for a in answers]
     (CRATES / "test_implementation" / "stdin").write_bytes(case_bytes(cases))
@@ -567,6 +594,36 @@ def stated_of_joining():
     for length in (32733, LONG):
         assert len(joined(TICK, *joins.of_length(length))) == length
     assert ref.read(TICK, POSTS["Joined"]).count == 40  # SPECIFICATION 18.10
+
+
+def stated_of_late_clocks():
+    """What tests/late_clocks.py knows is what the reading gives (SPECIFICATION 16.11, 18.5)."""
+    for tick, text, line in [*((TICK, *case) for case in late_clocks.readings()), *late_clocks.at_tick_lengths()]:
+        assert reading_line(tick, text).startswith(line), (tick, text, line, reading_line(tick, text))
+    for tick, text, answer in [*((TICK, *case) for case in late_clocks.implementations()), *late_clocks.implementations_at_tick_lengths()]:
+        assert ref.implementation(tick, text) == answer, (tick, text, answer, ref.implementation(tick, text))
+    for tick, left, right, run in [*((TICK, *case) for case in late_clocks.pairs()), *late_clocks.pairs_at_tick_lengths()]:
+        departs(tick, left, right, run)
+    for tick, left, right, text in late_clocks.written():
+        assert joined(tick, left, right) == text, (text, joined(tick, left, right))
+    for tick, left, right, states in late_clocks.read_again():
+        assert ref.read(TICK, joined(tick, left, right)).count == states, (left, right, states)
+    for left, right, fits in late_clocks.at_limits():
+        assert (joined(TICK, left, right) != (25, 0, 0, 0)) == fits, (left, right, fits)
+    for left, right, is_met in late_clocks.together():
+        assert ref.safe_states(TICK, joined(TICK, left, right), bytes(512))[0][1] == is_met, (left, right, is_met)
+    for *case, answer in late_clocks.refused():
+        assert joined(*case) == answer, (case, answer, joined(*case))
+    woken, again = (ref.read(TICK, text) for text in (late_clocks.WOKEN, late_clocks.woken("assign x = 7, x = 1;")))
+    assert woken.edges[1][4] == {0: [1]} and again.edges[1][4] == {0: [7, 1]}
+    high = ref.Text(TICK, late_clocks.woken("assign x = 4;"), judged=False)  # 12 states, if they were judged
+    assert ref.ranges(1, high.invariants, high.edges) == [6] and len(high.locations) == 2
+    assert all(same_step(woken, again, (l, (x,)), c) for l in (0, 1) for x in range(12) for c in range(4))
+
+
+def same_step(a, b, config, c):
+    """Whether a step leads two texts with the same locations and clocks to one configuration, or both nowhere."""
+    return a.step(config, c) == b.step(config, c)
 
 
 def stated_of_parallel_edges():
@@ -639,7 +696,9 @@ def joining_cases(seed=13, count=36):
              *random_joins(random.Random(seed), count),
              *((tick, left, right) for tick, left, right, _ in parallel_edges.written()),
              *((TICK, left, right) for left, right, _ in parallel_edges.read_again() + parallel_edges.at_limits() + parallel_edges.together()),
-             *((TICK, left, right) for left, right, _ in parallel_edges.refused())]
+             *((TICK, left, right) for left, right, _ in parallel_edges.refused()),
+             *((tick, left, right) for tick, left, right, _ in late_clocks.written() + late_clocks.read_again() + late_clocks.refused()),
+             *((TICK, left, right) for left, right, _ in late_clocks.at_limits() + late_clocks.together())]
     cases = []
     for i, pair in enumerate(pairs):
         reads_back(*pair)
@@ -679,11 +738,15 @@ def record_lines(tick_length, text):
 
     def joined(comparisons):
         return "".join(f" {clock} {sign} {value}" for clock, sign, value in comparisons)
+
+    def assigned(edge):
+        """Each clock that is assigned, its value and the largest one written (SPECIFICATION 5.4)."""
+        return "".join(f" assign {clock} {values[-1]} {max(values)}" for clock, values in sorted(edge[4].items()))
     out = [f" accepted {len(t.channels)} {len(t.clocks)} {len(t.locations)} {len(t.edges)} {t.init}"]
     out += [f"  channel {place} {n} {t.marks.get(c, '-')}" for c, (place, n) in enumerate(t.places["channel"])]
     out += [f"  clock {place} {n}" for place, n in t.places["clock"]]
     out += [f"  location {place} {n}{joined(i)}" for (place, n), i in zip(t.places["location"], t.invariants)]
-    out += [f"  edge {e[0]} {e[1]} {t.marks[e[3]]} {e[3] + 1}{joined(e[2])}{''.join(f' reset {k}' for k in sorted(e[4]))}" for e in t.edges]
+    out += [f"  edge {e[0]} {e[1]} {t.marks[e[3]]} {e[3] + 1}{joined(e[2])}{assigned(e)}" for e in t.edges]
     return out
 
 
@@ -730,7 +793,7 @@ def uncapped(seed=5, texts=200, steps=40):
 
 
 def stated():
-    """What SPECIFICATION 16.2 to 16.10 states of the posts is what this reading gives."""
+    """What SPECIFICATION 16.2 to 16.11 states of the posts is what this reading gives."""
     P, big, run = POSTS, bytes(512), [0] * 9
     for name, states, safe in (("Post", 10, (9, 1)), ("Hush", 10, (5, 0)), ("Strict", 12, (10, 1))):
         assert ref.read(TICK, P[name]).count == states and ref.safe_states(TICK, P[name], big)[0] == safe
@@ -752,6 +815,7 @@ def stated():
     assert ref.read(TICK, P["Spare"]).count == 15 and 10 not in ref.read(TICK, P["Spare"]).reachable()
     stated_of_sheet()
     stated_of_parallel_edges()
+    stated_of_late_clocks()
     for tick, text, line in [*((TICK, *case) for case in known_readings() + strict_readings()), *tick_lengths.readings()]:
         assert reading_line(tick, text).startswith(line), (tick, text, line, reading_line(tick, text))
 
@@ -779,6 +843,7 @@ def operations():
     many_states(cases)
     random_pairs(cases, 1)
     parallel_pairs(cases)
+    late_pairs(cases)
     missing = every_code() - cases.codes
     assert not missing and not cases.codes - every_code(), (missing, cases.codes - every_code())
     cases.write()

@@ -4,8 +4,9 @@
 `megzhoi`, `widest` and `join` read left.xta and right.xta, `recheck` table.pbm too, and `implementation` left.xta
 alone; each pair gets all five, `recheck` with the table that `widest` must have made, with damaged ones and with none.
 The pairs are the examples, texts with one fault each, texts at each limit (SPECIFICATION 4.3), texts with strict signs,
-files that are missing, too long or no files, texts with parallel edges (tests/parallel_edges.py), and random texts
-(seeded). `join` also gets pairs whose joined text is at a limit or has names that need underscores (tests/joins.py).
+files that are missing, too long or no files, texts with parallel edges (tests/parallel_edges.py) and with late clocks
+(tests/late_clocks.py), and random texts (seeded). `join` also gets pairs whose joined text is at a limit or has names
+that need underscores (tests/joins.py).
 The programs read with tick length 1 (SPECIFICATION 14.1, 14.5, 14.7, 14.8).
 `implementation` is also run with no file but left.xta, on texts with a known answer (tests/implementations.py).
 Run it at the repository's root, with the programs in target/bin; the exit status is 0 when nothing differs.
@@ -19,6 +20,7 @@ from collections import Counter
 
 import implementations
 import joins
+import late_clocks
 import parallel_edges
 import reference as ref
 from texts import (POST, POSTS, TICK, beat, clocked, counts, faults, is_small, late, long_edges, random_pair, rows, swapped, telling_pairs, wide)
@@ -96,6 +98,12 @@ def parallel_pairs():
     return [*(pair[:2] for pair in parallel_edges.pairs()), *(pair for text in lead for pair in ((text, POST), (POSTS["Twice"], text)))]
 
 
+def late_pairs():
+    """Pairs with late clocks on either side or on both; texts that the invariant, the limits or a fault refuses, on either side."""
+    texts = [text for text, _ in late_clocks.posts() + late_clocks.entered() + late_clocks.limits() + late_clocks.faults()]
+    return [*(pair[:2] for pair in late_clocks.pairs()), *(pair for text in texts for pair in ((text, POST), (late_clocks.WOKEN, text)))]
+
+
 def random_pairs(count, seed):
     rng, pairs = random.Random(seed), []
     while len(pairs) < count:
@@ -113,7 +121,7 @@ def all_pairs():
             ("faults", [pair for t in bad.values() for pair in ((t, POST), (POST, t), (t, bad[2]))]),
             ("channels", [pair for t in channels for pair in ((t, POST), (POST, t), (POSTS["Rearm"], t), (t, POSTS["Hush"]))]),
             ("files", in_files()), ("limits", at_limits()), ("pairs", at_pairs()), ("strict", strict_pairs()), ("tables", large_tables()),
-            ("parallel", parallel_pairs()),
+            ("parallel", parallel_pairs()), ("late", late_pairs()),
             ("random", random_pairs(150, 7)), ("telling", telling_pairs(random.Random(8)))]
 
 
@@ -208,7 +216,7 @@ def known_answers(runner):
     """Texts with a known answer, in a folder that has nothing but left.xta."""
     for name in ("right.xta", "table.pbm"):
         runner.put(name, None)
-    for i, (text, answer) in enumerate(implementations.known() + parallel_edges.implementations()):
+    for i, (text, answer) in enumerate(implementations.known() + parallel_edges.implementations() + late_clocks.implementations()):
         assert ref.implementation(TICK, text) == answer
         runner.one(runner.put("left.xta", text), f"known {i}")
 
@@ -217,6 +225,8 @@ def pairs_to_join(runner):
     """Pairs with known answers, in a folder that has no table."""
     found = joins.underscored() + joins.at_limits() + joins.together()
     found += parallel_edges.read_again() + parallel_edges.at_limits() + parallel_edges.together()
+    found += [case[1:] for case in late_clocks.written() + late_clocks.read_again() + late_clocks.refused()]  # all of them at length 1
+    found += late_clocks.at_limits() + late_clocks.together()
     pairs = [pair[:2] for pair in found]
     for i, (left, right) in enumerate(pairs):
         runner.join(runner.put("left.xta", left), runner.put("right.xta", right), f"to join {i}")

@@ -73,13 +73,15 @@ class Lengths:
         self.table = length(seed, TABLE, self.table_needed, TABLE_BYTES)
 
 
-def count_parallel(period, left, right, tally):
-    """Two texts with a safe left start that both have parallel edges."""
+def count_pairs(period, left, right, tally):
+    """Two texts with a safe left start that both have parallel edges, or late clocks."""
     try:
         two = reference.both(period, left, right)
     except reference.Refused:
         return
-    tally["parallel pairs"] += int(two.left.start in two.safe and two.left.has_parallel() and two.right.has_parallel())
+    if two.left.start in two.safe:
+        tally["parallel pairs"] += int(two.left.has_parallel() and two.right.has_parallel())
+        tally["late pairs"] += int(two.left.has_late_clock() and two.right.has_late_clock())
 
 
 def search_case(period, left, right, z, tally):
@@ -131,7 +133,7 @@ def lent_cases(period, left, right, seed, tally):
         tally["left out"] += 1
         return
     z = Lengths(n, m, seed)
-    count_parallel(period, left, right, tally)
+    count_pairs(period, left, right, tally)
     search_case(period, left, right, z, tally)
     widest_case(period, left, right, z, tally)
     check_cases(period, left, right, n, m, seed, tally)
@@ -143,7 +145,9 @@ def join_cases(period, left, right, tally):
     tally.call(answer)
     if len(answer) == 1:
         tally["joined"] += 1
-        tally["parallel joined"] += int(reference.both(period, left, right).joins_parallel())
+        two = reference.both(period, left, right)
+        tally["parallel joined"] += int(two.joins_parallel())
+        tally["late joined"] += int(reference.has_late_clock(reference.Joined(two).edges))
         for n in (answer[0], answer[0] - 1):
             tally.call(reference.join(period, left, right, bytes(n))[0])
 
@@ -168,7 +172,10 @@ def long_cases(period, text, seed, tally):
 def read_cases(period, g, pen, text, tally):
     answer = read(period, text)
     tally.call(answer if isinstance(answer, tuple) else ())
-    tally["parallel"] += int(not isinstance(answer, tuple) and answer.has_parallel())
+    if not isinstance(answer, tuple):
+        tally["parallel"] += int(answer.has_parallel())
+        tally["late"] += int(answer.has_late_clock())
+        tally["overridden"] += int(any(max(values) > values[-1] for edge in answer.edges for values in edge[4].values()))
     if not is_damaged(g) and g.period != 1 and pen.code == 0 and Pen(in_ticks(g)).code == 0:
         tally["rounded"] += 1
 
@@ -200,7 +207,7 @@ def one_case(i, tally):
 
 def line(tally):
     names = ("departures", "none", "start pairs", "implementations", "rounded", "joined", "parallel", "parallel pairs", "parallel joined",
-             "left out")
+             "late", "late pairs", "late joined", "overridden", "left out")
     counts = [f"{name} {tally[name]}" for name in names]
     codes = " ".join(f"{code}:{tally[code]}" for code in range(1, 27))
     return ", ".join(["differences 0", *counts, f"accepted {tally[0]}", f"refused {codes}"])

@@ -10,23 +10,24 @@ LARGEST_CONSTANT, LONGEST_TICK = 1000, 60000
 # the codes that are noted
 MISFIT, NAME_TOO_LONG, DECLARED_BEFORE, UNKNOWN_NAME, CONSTANT_TOO_LARGE, TOO_MANY_ITEMS = 2, 3, 4, 5, 6, 7
 # the changes
-(NO_CHANGE, SHIFTED_BOUND, OTHER_TARGET, OTHER_RESETS, LONGER_STAY, NO_INVARIANT, OTHER_OUTPUT, DROPPED_EDGE, DOUBLED_EDGE, OVERLAP,
- RENAMED, OTHER_MARK, ONE_MARK, LARGE_BOUND, TOO_LARGE_BOUND, LONG_CHANNEL, LONG_CLOCK, LONG_LOCATION, MANY_CHANNELS, MANY_CLOCKS,
- MANY_LOCATIONS, LONG_INVARIANT, LONG_GUARD, STRAY_BYTE, CUT_OFF, SAME_NAME, OTHER_NAME, ZERO_BOUND, OTHER_SIGN, RESET_TO_ONE,
- CHANGES) = range(31)
+(NO_CHANGE, SHIFTED_BOUND, OTHER_TARGET, OTHER_CLOCKS, LONGER_STAY, NO_INVARIANT, OTHER_VALUES, OTHER_OUTPUT, DROPPED_EDGE, DOUBLED_EDGE,
+ OVERLAP, RENAMED, OTHER_MARK, ONE_MARK, LARGE_BOUND, TOO_LARGE_BOUND, LONG_CHANNEL, LONG_CLOCK, LONG_LOCATION, MANY_CHANNELS, MANY_CLOCKS,
+ MANY_LOCATIONS, LONG_INVARIANT, LONG_GUARD, STRAY_BYTE, CUT_OFF, SAME_NAME, OTHER_NAME, ZERO_BOUND, OTHER_SIGN, LARGE_VALUE, TOO_LARGE_VALUE,
+ CHANGES) = range(33)
 # a change of viewpoints alone, and how many constants it brings
-LARGE_CONSTANTS, MANY = 30, 200
+LARGE_CONSTANTS, MANY = 32, 200
 # what is chosen
-TARGETS, RESETS, ALL_RESETS, CLOCKS, BOUNDS, SIGNS, STRICTS = 8, 16, 24, 32, 40, 48, 56
+TARGETS, SETS, WHOLE_SETS, CLOCKS, BOUNDS, SIGNS, STRICTS = 8, 16, 24, 32, 40, 48, 56
 (COUNTS, GROUPS, STARTS, WHITES, BLANKS, STRAYS, LETTERS, EXCESSES, WIDTHS, PLACES, BYTES, CONSTANTS, CHANNELS, LOCATIONS, TURNS, CHANGE,
  PARTS, ROUNDINGS, PERIODS, DOUBLING, DOUBLES, ORIGINALS, ORDERS, OPEN_DOUBLES) = range(64, 88)
 KINDS, ADDED_CLOCKS, ADDED_SIGNS, ADDED_BOUNDS = 88, 96, 104, 112
+VALUES, LATE_VALUES, REPEATS, OVERRIDDEN, LATES = 120, 136, 152, 168, 184
 FEW, LARGE_ODDS = 4, 16
 INVARIANT = CHANNELS_MOST + 1
 NO_SIGN, AT_MOST, AT_LEAST, EQUAL, LESS, GREATER, SIGN_COUNT = range(7)
 SPELLED = {AT_MOST: "<=~", AT_LEAST: ">=~", EQUAL: "==~", LESS: "<~", GREATER: ">~"}
 # the kinds of edges that are written again
-SAME_EDGE, NARROWER, OTHER_RESET, ELSEWHERE, EDGE_KINDS = range(5)
+SAME_EDGE, NARROWER, OTHER_SET, ELSEWHERE, EDGE_KINDS = range(5)
 EVERY_CLOCK = 7
 WORD = 0xFFFFFFFF
 
@@ -187,7 +188,10 @@ class Shape:
         if kind == NARROWER:
             sign = self.own_choice(ADDED_SIGNS, l, c, j, SIGN_COUNT - 1) + 1
             return clock, sign, self.own_choice(ADDED_BOUNDS, l, c, j, self.constants())
-        return clock, (AT_MOST, EQUAL)[self.own_choice(ADDED_SIGNS, l, c, j, 2)] if kind == OTHER_RESET else LESS, 0
+        if kind != OTHER_SET:
+            return clock, LESS, 0
+        value = self.value_of(l, c, j, clock)
+        return clock, AT_MOST if value == 0 and self.own_choice(ADDED_SIGNS, l, c, j, 2) == 0 else EQUAL, value
 
     def sign_at(self, l, c, j, i):
         if c == INVARIANT:
@@ -239,18 +243,53 @@ class Shape:
         n, t = self.locations(), self.own_target(l, c, self.original(l, c, j))
         return (t + 1) % n if self.kind_of(l, c, j) == ELSEWHERE and t < n else t
 
-    def own_resets(self, l, c, j):
-        r = self.choice(RESETS + j, l, c, EVERY_CLOCK + 1)
-        if self.change_at(l, c) == OTHER_RESETS:
+    def own_set(self, l, c, j):
+        r = self.choice(SETS + j, l, c, EVERY_CLOCK + 1)
+        if self.change_at(l, c) == OTHER_CLOCKS:
             return r ^ EVERY_CLOCK
         t = self.own_target(l, c, j)
-        if t == l or self.invariant_count(t) == 0 or self.choice(ALL_RESETS + j, l, c, 24) == 0:
+        if t == l or self.invariant_count(t) == 0 or self.choice(WHOLE_SETS + j, l, c, 24) == 0:
             return r
         return EVERY_CLOCK
 
-    def resets_of(self, l, c, j):
-        r = self.own_resets(l, c, self.original(l, c, j))
-        return r ^ 1 << self.own_choice(ADDED_CLOCKS, l, c, j, self.clocks()) if self.kind_of(l, c, j) == OTHER_RESET else r
+    def set_of(self, l, c, j):
+        r = self.own_set(l, c, self.original(l, c, j))
+        return r ^ 1 << self.own_choice(ADDED_CLOCKS, l, c, j, self.clocks()) if self.kind_of(l, c, j) == OTHER_SET else r
+
+    def is_late(self):
+        """Whether the edges set clocks to other values than 0 as well."""
+        return pick(self.seed, LATES, 0, 0, 2) == 0
+
+    def highest(self, t):
+        """The largest value that a location mostly allows."""
+        return self.bound_at(t, INVARIANT, 0, 0) if self.invariant_count(t) else self.constants()
+
+    def late_value(self, l, c, j, k):
+        """0, a value that the target allows, or one more."""
+        at = 3 * j + k
+        kind, n = self.choice(VALUES + at, l, c, 16), self.choice(LATE_VALUES + at, l, c, self.highest(self.own_target(l, c, j)) + 1)
+        return n + 1 if kind == 0 else 0 if kind < 8 else n
+
+    def is_large(self, l, c, excess):
+        """Whether the change is a large value, in an assignment that counts (0) or in one that is overridden (1)."""
+        return self.change_at(l, c) in (LARGE_VALUE, TOO_LARGE_VALUE) and self.excess() == excess
+
+    def large_value(self):
+        return LARGEST_CONSTANT + int(self.change == TOO_LARGE_VALUE)
+
+    def value_of(self, l, c, j, k):
+        """What an edge sets a clock to; one that is written again sets it to the same."""
+        if self.is_large(l, c, 0):
+            return self.large_value()
+        n = self.late_value(l, c, self.original(l, c, j), k) if self.is_late() else 0
+        return n + int(self.change_at(l, c) == OTHER_VALUES)
+
+    def is_overridden(self, l, c, j, k):
+        """Whether an edge assigns the clock once more, before the assignment that counts."""
+        return self.is_large(l, c, 1) or self.is_late() and pick(self.gap, REPEATS + 3 * j + k, l, c, 12) == 0
+
+    def overridden_value(self, l, c, j, k):
+        return self.large_value() if self.is_large(l, c, 1) else pick(self.gap, OVERRIDDEN + 3 * j + k, l, c, self.constants() + 2)
 
     def is_input(self, l, c):
         is_other = self.change == OTHER_MARK and self.is_about(c) or self.change_at(l, c) == ONE_MARK
@@ -366,6 +405,9 @@ class Pen:
         self.words(SPELLED[s])
         if c == INVARIANT and s == LESS and n == 0:
             self.noted(MISFIT)
+        self.constant(n)
+
+    def constant(self, n):
         if n > LARGEST_CONSTANT:
             self.noted(CONSTANT_TOO_LARGE)
         self.numeral(self.milliseconds(n))
@@ -417,18 +459,23 @@ class Pen:
         self.words("sync ")
         self.channel(c)
         self.words("~?~;~" if g.is_input(l, c) else "~!~;~")
-        at, resets = self.at, g.resets_of(l, c, j)
-        for k in range(min(g.clocks(), 3)):
-            if resets >> k & 1:
-                self.words("~,~" if self.at != at else "assign ")
-                self.clock(k)
-                self.words("~=~")
-                if g.change == RESET_TO_ONE:
-                    self.noted(MISFIT)
-                self.numeral(int(g.change == RESET_TO_ONE))
+        at, chosen = self.at, g.set_of(l, c, j)
+        clocks = [k for k in range(min(g.clocks(), 3)) if chosen >> k & 1]
+        for k in clocks:
+            if g.is_overridden(l, c, j, k):
+                self.assignment(at, k, g.overridden_value(l, c, j, k))
+        for k in clocks:
+            self.assignment(at, k, g.value_of(l, c, j, k))
         self.after(at, "~;~")
         self.put("}")
         self.edges += 1
+
+    def assignment(self, at, k, n):
+        """An assignment of n ticks, in a list that begins at a place."""
+        self.words("~,~" if self.at != at else "assign ")
+        self.clock(k)
+        self.words("~=~")
+        self.constant(n)
 
 
 def damaged(text, seed):

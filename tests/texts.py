@@ -115,13 +115,19 @@ def split(rng, clock, most):
     return (rng.choice((f"{clock} < {low}", f"{clock} <= {low - 1}")), rng.choice((f"{clock} >= {high}", f"{clock} > {high - 1}")))
 
 
+def late_value(rng, most):
+    """What a clock is set to: mostly 0, else a value that an invariant may allow, now and then one more."""
+    return rng.randrange(1, most + 2) if rng.random() < 0.3 else 0
+
+
 def random_edges(rng, channels, clocks, locations, most):
     """Each input has an edge without a guard, or two that share the values of a clock, in each location."""
     edges = []
 
     def edge(source, guard, label):
-        resets = rng.sample(clocks, rng.choice((0, 0, 1, 1, len(clocks)))) if clocks else []
-        assign = f"assign {', '.join(c + ' = 0' for c in resets)}; " if resets else ""
+        chosen = rng.sample(clocks, rng.choice((0, 0, 1, 1, len(clocks)))) if clocks else []
+        chosen += rng.sample(chosen, 1) if chosen and rng.random() < 0.06 else []  # a clock that is assigned twice
+        assign = f"assign {', '.join(f'{c} = {late_value(rng, most)}' for c in chosen)}; " if chosen else ""
         edges.append(f"{source} -> {rng.choice(locations)} {{ {guard}sync {label}; {assign}}}")
     for name, mark in channels:
         for source in locations if mark != "-" else ():
@@ -161,7 +167,7 @@ def in_milliseconds(rng, text, tick_length):
         whole, half = int(found[2]) * tick_length, tick_length // 2
         first, last = max(whole - half, 0), whole + tick_length - half - 1
         return found[1] + b"%d" % rng.choice((whole, first, last, rng.randint(first, last)))
-    return re.sub(rb"((?:[<>]=?|==)\s*)(\d+)", written, text)
+    return re.sub(rb"((?:[<>]=?|==?)\s*)(\d+)", written, text)
 
 
 def damaged(rng, text):
@@ -236,14 +242,37 @@ def lax(text):
         return [(clock, {"<": "<=", ">": ">="}.get(sign, sign), bound) for clock, sign, bound in comparisons]
     other = copy(text)
     other.found, other.invariants = {}, [loosened(i) for i in text.invariants]
-    other.edges = [(source, target, loosened(guard), channel, resets) for source, target, guard, channel, resets in text.edges]
+    other.edges = [(source, target, loosened(guard), channel, written) for source, target, guard, channel, written in text.edges]
     return other
+
+
+def other_values(text, choose):
+    """The text whose edges set a clock to what is chosen of the values written; its states are numbered as before."""
+    other = copy(text)
+    other.found = {}
+    other.edges = [(*e[:4], {clock: [choose(values)] for clock, values in e[4].items()}) for e in text.edges]
+    return other
+
+
+def in_both(others, two, s, t, c):
+    """The moves of two texts that stand for the left and the right."""
+    u = others[0].next(s, c)
+    return (u if u in two.safe else None), others[1].next(t, two.map[c])
 
 
 def strict_lax(two, s, t, c):
     """A slip: strict comparisons read as the others."""
-    u = two.lax[0].next(s, c)
-    return (u if u in two.safe else None), two.lax[1].next(t, two.map[c])
+    return in_both(two.lax, two, s, t, c)
+
+
+def late_at_zero(two, s, t, c):
+    """A slip: every clock that is assigned is set to 0."""
+    return in_both(two.at_zero, two, s, t, c)
+
+
+def first_counts(two, s, t, c):
+    """A slip: the first assignment of a clock counts, not the last."""
+    return in_both(two.by_first, two, s, t, c)
 
 
 def is_changed(two, slip):
@@ -258,18 +287,20 @@ def kinds_of(left, right):
     if counts(left, right) is None:
         return {"refused"}
     two = ref.both(TICK, left, right)
-    two.right_safe, two.lax = two.right.safe(), (lax(two.left), lax(two.right))
+    sides = two.left, two.right
+    two.right_safe, two.lax = two.right.safe(), [lax(text) for text in sides]
+    two.at_zero, two.by_first = ([other_values(text, choose) for text in sides] for choose in (lambda values: 0, lambda values: values[0]))
     if two.left.start not in two.safe:
         return {"start"}
     n = len(ref.departure(two))
     facts = {"three clocks": len(two.left.clocks) == 3, "order": n != 1 and two.map != sorted(two.map), "long": n > 3,
              "refines": n == 0 and left != right}
-    facts.update((slip.__name__, is_changed(two, slip)) for slip in (left_whole, right_pruned, capped_early, strict_lax))
+    facts.update((slip.__name__, is_changed(two, slip)) for slip in (left_whole, right_pruned, capped_early, strict_lax, late_at_zero, first_counts))
     return {kind for kind, holds in facts.items() if holds}
 
 
 KINDS = {"refused": 6, "start": 4, "three clocks": 14, "order": 14, "long": 12, "refines": 12,
-         "left_whole": 12, "right_pruned": 12, "capped_early": 12, "strict_lax": 12}
+         "left_whole": 12, "right_pruned": 12, "capped_early": 12, "strict_lax": 12, "late_at_zero": 12, "first_counts": 3}
 
 
 def telling_pairs(rng, most=1500, wanted=KINDS):

@@ -37,11 +37,10 @@ def readings():
 
 
 def rounded():
-    """V is 2 more than the ticks of the constant; a reset's numeral is not divided."""
-    reset = swapped(POSTS["Rearm"], (b"x = 0", b"x = 1"))
+    """V is 2 more than the ticks of the constant; assignments are in tests/late_clocks.py."""
     known = [(tick, c, ticks) for tick, found in TICKS.items() for c, ticks in found.items()]
     return [*((tick, compared(c, sign), f" states {ticks + 2} |") for tick, c, ticks in known for sign in ref.SIGNS),
-            (1000, POSTS["Rearm"], " states 4 |"), (1000, reset, refused(2, reset, b"assign x = "))]
+            (1000, POSTS["Rearm"], " states 4 |")]
 
 
 def at_limits():

@@ -1,14 +1,14 @@
 //! The tables by size: every operation on texts that grow, the library beside plain Rust and, where it is given, beside
 //! an older build.
 
-use crate::contenders::{contenders, with_implementation, with_join, with_parallel_edges, Calls, Contender, PLAIN};
+use crate::contenders::{contenders, taking, with_implementation, with_join, Calls, Contender, Needs, PLAIN};
 use crate::operations::{check, implementation, join, reached, read, safe_states, search, states, widest};
 use crate::operations::{Operation, Texts};
 use boundary::{ByPairs, Returned};
 use plain::codes::{LIMIT_EXCEEDED, OUTPUT_BESIDE_TICK};
 use std::rc::Rc;
 use texts::{at_single_values, chain, drifting, each_edge_twice, early, full_of_edges, full_of_tokens};
-use texts::{of_joined_length, passive, post, relay, scaled_post, short_rows, twice, Kind, Reach};
+use texts::{of_joined_length, passive, post, relay, scaled_post, short_rows, started_late, twice, woken, Kind, Reach};
 
 pub struct Table {
     pub title: &'static str,
@@ -27,8 +27,8 @@ pub struct Case {
     pub name: String,
     /// What every contender has to return: 0, or the code of a refusal.
     code: usize,
-    /// Whether a text has parallel edges: those that refuse them are left out.
-    parallel: bool,
+    /// What a text has that an older build may refuse: those that do are left out.
+    needs: Needs,
     texts: Box<dyn Fn() -> Texts>,
 }
 
@@ -51,12 +51,13 @@ pub fn tables() -> Vec<Table> {
         let contenders = contenders.clone();
         Table { title, unit, contenders, groups, operation, units }
     };
-    let refining = || groups(vec![drifting_groups(&[Kind::Refining]), doubled(), vec![posts()]]);
+    let refining = || groups(vec![drifting_groups(&[Kind::Refining]), doubled(), late(), vec![posts()]]);
     let (judging, joining) = (with_implementation(&contenders), with_join(&contenders));
     let of_left: fn(&Texts, Returned) -> usize = |(left, _), _| states(left);
-    let all = groups(vec![drifting_groups(&KINDS), doubled(), vec![posts(), chains()]]);
+    let all = groups(vec![drifting_groups(&KINDS), doubled(), late(), vec![posts(), chains()]]);
+    let searched = groups(vec![drifting_groups(&KINDS), doubled(), late()]);
     vec![
-        table("Search", "pair", groups(vec![drifting_groups(&KINDS), doubled()]), search, |texts, _| reached(texts)),
+        table("Search", "pair", searched, search, |texts, _| reached(texts)),
         table("Widest table", "pair", all, widest, |(left, right), _| states(left) * states(right)),
         table("Check of the widest table", "pair", refining(), check, |_, returned| returned.p),
         table("Safe states", "state", of_the_left(refining()), safe_states, of_left),
@@ -69,10 +70,7 @@ pub fn tables() -> Vec<Table> {
 impl Table {
     /// Those that take the texts of a case.
     pub fn contenders(&self, case: &Case) -> Vec<Contender> {
-        match case.parallel {
-            true => with_parallel_edges(&self.contenders),
-            false => self.contenders.clone(),
-        }
+        taking(&self.contenders, case.needs)
     }
 
     /// Compares contenders; gives the number of units and a call for each contender.
@@ -85,7 +83,7 @@ impl Table {
 }
 
 fn case(name: String, texts: impl Fn() -> Texts + 'static) -> Case {
-    Case { name, code: 0, parallel: false, texts: Box::new(texts) }
+    Case { name, code: 0, needs: Needs::Nothing, texts: Box::new(texts) }
 }
 
 /// The same with each edge of both texts twice.
@@ -95,7 +93,22 @@ fn in_double(case: Case) -> Case {
         let (left, right) = texts();
         (doubled_text(&left), doubled_text(&right))
     };
-    Case { name: format!("{name}, each edge twice"), parallel: true, texts: Box::new(texts), ..case }
+    let needs = Needs::ParallelEdges;
+    Case { name: format!("{name}, each edge twice"), needs, texts: Box::new(texts), ..case }
+}
+
+/// The ticks to which clocks are set that start late: no more than most texts compare them with, so that these have as
+/// many states as without.
+const LATE_TICKS: usize = 1;
+
+/// The same with each clock that is set to 0 set to a tick.
+fn started(case: Case) -> Case {
+    let Case { name, texts, .. } = case;
+    let texts = move || {
+        let (left, right) = texts();
+        (started_late(&left, LATE_TICKS), started_late(&right, LATE_TICKS))
+    };
+    Case { name: format!("{name}, late clocks"), needs: Needs::LateClocks, texts: Box::new(texts), ..case }
 }
 
 /// A text that is not there, where an operation takes one only, stays so.
@@ -112,8 +125,16 @@ fn groups(parts: Vec<Vec<Vec<Case>>>) -> Vec<Vec<Case>> {
 
 /// The refining texts with each edge twice: their moves are the same, so what is dearer is the doubled edge.
 fn doubled() -> Vec<Vec<Case>> {
-    let groups = drifting_groups(&[Kind::Refining]).into_iter();
-    groups.map(|group| group.into_iter().map(in_double).collect()).collect()
+    each(drifting_groups(&[Kind::Refining]), in_double)
+}
+
+/// The refining texts with clocks that start late.
+fn late() -> Vec<Vec<Case>> {
+    each(drifting_groups(&[Kind::Refining]), started)
+}
+
+fn each(groups: Vec<Vec<Case>>, form: fn(Case) -> Case) -> Vec<Vec<Case>> {
+    groups.into_iter().map(|group| group.into_iter().map(form).collect()).collect()
 }
 
 fn drifting_groups(kinds: &[Kind]) -> Vec<Vec<Case>> {
@@ -167,11 +188,13 @@ fn implementations() -> Vec<Vec<Case>> {
         }));
     }
     for channels in CHANNELS {
-        let sized = SIZES.map(|values| {
-            let name = format!("{} states, {channels} channels, all reached", values * values);
-            in_double(case(name, move || (passive(values, channels, Reach::All), Vec::new())))
-        });
-        groups.push(Vec::from(sized));
+        for form in [in_double, started] {
+            let sized = SIZES.map(|values| {
+                let name = format!("{} states, {channels} channels, all reached", values * values);
+                form(case(name, move || (passive(values, channels, Reach::All), Vec::new())))
+            });
+            groups.push(Vec::from(sized));
+        }
     }
     let relay_of =
         |values| case(format!("{} states, one after another", 32 * values), move || (relay(values), Vec::new()));
@@ -182,7 +205,7 @@ fn implementations() -> Vec<Vec<Case>> {
 /// A text for an operation on one.
 type OneText = (&'static str, fn() -> Vec<u8>);
 
-/// Texts with at most half of the edges that there can be, which are read with each edge twice too.
+/// Texts with at most half of the edges that there can be, which are read with each edge twice and with late clocks too.
 const READ_TWICE: [OneText; 5] = [
     ("4 channels, 4,096 states", || drifting(64, 4, Kind::Refining).0),
     ("16 channels, 4,096 states", || drifting(64, 16, Kind::Refining).0),
@@ -198,10 +221,15 @@ fn reading() -> Vec<Vec<Case>> {
         ("as many tokens as possible, 32,768 bytes", full_of_tokens),
     ];
     let one = |(name, text): OneText| case(name.to_string(), move || (text(), Vec::new()));
-    let posts = [one(("Post", post)), Case { parallel: true, ..one(("Twice", twice)) }];
+    let posts = [
+        one(("Post", post)),
+        Case { needs: Needs::ParallelEdges, ..one(("Twice", twice)) },
+        Case { needs: Needs::LateClocks, ..one(("Woken", woken)) },
+    ];
     let texts = READ_TWICE.into_iter().chain(more).map(one);
     let doubled = READ_TWICE.into_iter().map(|given| in_double(one(given)));
-    posts.into_iter().chain(texts).chain(doubled).map(|case| vec![case]).collect()
+    let late = READ_TWICE.into_iter().chain(more).map(|given| started(one(given)));
+    posts.into_iter().chain(texts).chain(doubled).chain(late).map(|case| vec![case]).collect()
 }
 
 /// Bytes of the two texts and of the joined one.
@@ -218,12 +246,18 @@ const JOINED_TWICE: [TwoTexts; 2] = [
     ("25 joined edges at single values", || (at_single_values(5), at_single_values(5))),
 ];
 
+/// Pairs with assignments, which are joined with late clocks too.
+const JOINED_LATE: [TwoTexts; 2] = [LARGER_POST, MOST_WRITTEN];
+const LARGER_POST: TwoTexts = ("larger post of 100 states and Post", || (scaled_post(10), post()));
+const MOST_WRITTEN: TwoTexts =
+    ("32 locations, 128 edges, 32,768 bytes written", || of_joined_length(plain::TEXT_LIMIT));
+
 /// Small pairs and large ones: much to read, much to write, and as many pairs of edges as there can be.
 fn joined() -> Vec<Vec<Case>> {
     let more: [TwoTexts; 4] = [
-        ("larger post of 100 states and Post", || (scaled_post(10), post())),
+        LARGER_POST,
         ("121 joined edges at single values", || (at_single_values(11), at_single_values(11))),
-        ("32 locations, 128 edges, 32,768 bytes written", || of_joined_length(plain::TEXT_LIMIT)),
+        MOST_WRITTEN,
         ("as many tokens as possible, 65,536 bytes read", || (full_of_tokens(), full_of_tokens())),
     ];
     let one = |(name, texts): TwoTexts| case(name.to_string(), texts);
@@ -231,5 +265,6 @@ fn joined() -> Vec<Vec<Case>> {
     let too_many = Case { code: LIMIT_EXCEEDED, ..too_many };
     let texts = JOINED_TWICE.into_iter().chain(more).map(one);
     let doubled = JOINED_TWICE.into_iter().map(|given| in_double(one(given)));
-    texts.chain([too_many]).chain(doubled).map(|case| vec![case]).collect()
+    let late = JOINED_LATE.into_iter().map(|given| started(one(given)));
+    texts.chain([too_many]).chain(doubled).chain(late).map(|case| vec![case]).collect()
 }

@@ -37,9 +37,25 @@ pub fn with_join(contenders: &[Contender]) -> Vec<Contender> {
     having(contenders, |operations| operations.join(TICK, &[], &[], &mut []))
 }
 
-/// Those that take texts with parallel edges: an older build may refuse them (SPECIFICATION 7.2).
-pub fn with_parallel_edges(contenders: &[Contender]) -> Vec<Contender> {
-    having(contenders, |operations| Some(operations.read(TICK, &texts::twice(), &mut [])).filter(|read| read.code == 0))
+/// What a text has that an older build may refuse.
+#[derive(Clone, Copy, Debug, PartialEq, Eq)]
+pub enum Needs {
+    /// Clocks and edges as every build takes them.
+    Nothing,
+    /// Parallel edges (SPECIFICATION 7.2).
+    ParallelEdges,
+    /// Clocks that are set to more than 0 (SPECIFICATION 6.3).
+    LateClocks,
+}
+
+/// Those that take texts that have what is named: an older build is asked for a post that has it.
+pub fn taking(contenders: &[Contender], needs: Needs) -> Vec<Contender> {
+    let post = match needs {
+        Needs::Nothing => return contenders.to_vec(),
+        Needs::ParallelEdges => texts::twice(),
+        Needs::LateClocks => texts::woken(),
+    };
+    having(contenders, |operations| Some(operations.read(TICK, &post, &mut [])).filter(|read| read.code == 0))
 }
 
 /// Where the contender of a name stands, if it is there.

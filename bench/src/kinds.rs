@@ -1,12 +1,12 @@
 //! The tables by kind: the operations on two texts, on pairs of texts by kind. Beside the builds of the library stands
 //! plain Rust by pairs and by rows.
 
-use crate::contenders::{contenders, with_parallel_edges, Calls, Contender, PLAIN};
+use crate::contenders::{contenders, taking, Calls, Contender, Needs, PLAIN};
 use crate::operations::{check, search, states, widest, Operation, Texts};
 use boundary::{ByPairs, ByRows, Returned};
 use std::rc::Rc;
-use texts::each_edge_twice;
 use texts::kinds::{departing, texts, Kind, CHANNELS, KINDS};
+use texts::{each_edge_twice, started_late};
 
 const BY_PAIRS: &str = "plain by pairs";
 const BY_ROWS: &str = "plain by rows";
@@ -49,21 +49,36 @@ enum Form {
     Fewer,
     /// The same with each edge twice.
     Twice,
+    /// With each clock that is set to 0 set to a tick.
+    Late,
 }
 
 impl Form {
     fn channels(self) -> usize {
         match self {
-            Form::AsItIs | Form::Departing => CHANNELS,
+            Form::AsItIs | Form::Departing | Form::Late => CHANNELS,
             Form::Fewer | Form::Twice => CHANNELS - 1,
+        }
+    }
+
+    fn needs(self) -> Needs {
+        match self {
+            Form::AsItIs | Form::Departing | Form::Fewer => Needs::Nothing,
+            Form::Twice => Needs::ParallelEdges,
+            Form::Late => Needs::LateClocks,
         }
     }
 }
 
+/// The kinds whose texts have clocks set to 0 in both texts, in the sizes in which every deadline allows a tick.
+const LATE: [Kind; 3] = [Kind::Full, Kind::Late, Kind::Same];
+const LATE_SIZES: [usize; 2] = [1_000, 4_096];
+const LATE_TICKS: usize = 1;
+
 /// The kinds whose texts have at most half of the edges that there can be, with one channel fewer.
 const DOUBLED: [Kind; 3] = [Kind::Full, Kind::Late, Kind::Same];
-/// The number of clocks of those.
-const DOUBLED_CLOCKS: usize = 2;
+/// The number of clocks of those, and of those with late clocks.
+const TWO_CLOCKS: usize = 2;
 
 const SIZES: [usize; 3] = [100, 1_000, 4_096];
 const CLOCKS: [usize; 3] = [1, 2, 3];
@@ -106,7 +121,7 @@ fn answer(returned: Returned) -> String {
 }
 
 /// Every kind in every size with every number of clocks; of those that depart anyway no second form. Then some with
-/// each edge once and twice.
+/// each edge once and twice, and some with late clocks.
 fn inputs(forms: &[Form]) -> Vec<Input> {
     let mut inputs = Vec::new();
     for kind in KINDS {
@@ -118,8 +133,11 @@ fn inputs(forms: &[Form]) -> Vec<Input> {
     }
     for kind in DOUBLED {
         for states in SIZES {
-            inputs.extend([Form::Fewer, Form::Twice].map(|form| Input { kind, states, clocks: DOUBLED_CLOCKS, form }));
+            inputs.extend([Form::Fewer, Form::Twice].map(|form| Input { kind, states, clocks: TWO_CLOCKS, form }));
         }
+    }
+    for kind in LATE {
+        inputs.extend(LATE_SIZES.map(|states| Input { kind, states, clocks: TWO_CLOCKS, form: Form::Late }));
     }
     inputs
 }
@@ -129,10 +147,7 @@ impl Table {
     pub fn cases<'a>(&'a self, words: &'a str) -> impl Iterator<Item = Case> + 'a {
         let named = self.inputs.iter().map(|input| (input.name(), input));
         named.filter(move |(name, _)| name.contains(words)).map(|(name, input)| {
-            let contenders = match input.form {
-                Form::Twice => with_parallel_edges(&self.contenders),
-                _ => self.contenders.clone(),
-            };
+            let contenders = taking(&self.contenders, input.form.needs());
             let (returned, calls) = (self.operation)(&contenders, Rc::new(input.texts()));
             Case { name, answer: (self.words)(returned), contenders, calls }
         })
@@ -146,7 +161,8 @@ impl Input {
         let twice = |text: &[u8]| each_edge_twice(text).expect("room for as many edges again");
         match self.form {
             Form::Twice => (twice(&left), twice(&right)),
-            _ => (left, right),
+            Form::Late => (started_late(&left, LATE_TICKS), started_late(&right, LATE_TICKS)),
+            Form::AsItIs | Form::Departing | Form::Fewer => (left, right),
         }
     }
 
@@ -159,6 +175,7 @@ impl Input {
             Form::Departing => ", departing".to_string(),
             Form::Fewer => format!(", {channels} channels"),
             Form::Twice => format!(", {channels} channels, each edge twice"),
+            Form::Late => ", late clocks".to_string(),
         };
         format!("{}, {1} × {1} states, {clocks}{form}", self.kind.name(), states(&left))
     }

@@ -4,7 +4,7 @@
 //! MEGZHOI_ROUNDS is how often each is timed (7); MEGZHOI_ONLY leaves out the cases whose line does not have it.
 //! MEGZHOI_BEFORE is the path of an older build of the library as a shared object, which every table then shows beside
 //! this one, timed in the same rounds; its answers have to be the same. An operation that it lacks is timed without it,
-//! and so are texts with parallel edges, where it refuses them.
+//! and so are texts with parallel edges and texts with late clocks, where it refuses them.
 //! All calls are at tick length 1, and an older build that takes no tick length is called without one.
 //! MEGZHOI_AFTER names this build's own shared object: calls into a shared object and into a linked archive differ by a
 //! few hundredths.

@@ -28,7 +28,7 @@ use Rattle.clocks.specs.Capped.{capped, capped-moves}
 use Rattle.clocks.specs.Accepted.{Accepted}
 use Rattle.clocks.specs.Numbers.{ranges-positive, config-state}
 use Rattle.clocks.specs.Agreement.{moves-capped, invariant-agrees}
-use Rattle.clocks.specs.Standing.{gives-parts, stands-location, stands-invariant, state-below}
+use Rattle.clocks.specs.Standing.{gives-exactly, stands-location, stands-invariant, state-below}
 
 -- the judgements differ
 not-no-move : (s c : ℕ) → NoMove s c ≡ Clean → ⊥
@@ -51,7 +51,7 @@ module _ (t : Text) (w : Well-formed t) where
       → (0 < c) × (c ≤ t .«channel_count»)
   unfolding edge-gives
   gives-label v c i h g =
-      let e = gives-parts (invariant-of t (edge t i .target)) (edge t i) v c g .0 in
+      let e = gives-exactly (invariant-of t (edge t i .target)) (edge t i) v c .0 g .1 in
       subst (λ (c : ℕ). (0 < c) × (c ≤ t .«channel_count»)) e (w .label i h)
 
   by-edges : (s c : ℕ) → 0 < c → state-moves t s c ≡ edge-moves t (config (ranges t) s) c (t .«edge_count»)

@@ -12,6 +12,7 @@ pub mod Signs
 pub mod Agreement
 pub mod Judgement
 pub mod Standing
+pub mod Assigned
 pub mod Found
 pub mod Contract
 pub mod Results

@@ -54,15 +54,21 @@ fn answer_of(j: Judged, t: Text, n: usize) -> Reading
     match j {
         Judged::Clean => {
             let answer = Verdict::Accepted;
-            Reading {
+            return Reading {
                 answer: answer,
                 text: t,
                 states: n,
-            }
+            };
         }
-        Judged::TooManyStates(states) => refused(Refusal::too_many_states(states)),
-        Judged::NoMove(s, c) => refused(Refusal::input_without_move(s, c)),
-        Judged::TwoEdges(s, c) => refused(Refusal::two_edges(s, c)),
+        Judged::TooManyStates(states) => {
+            return refused(Refusal::too_many_states(states));
+        }
+        Judged::NoMove(s, c) => {
+            return refused(Refusal::input_without_move(s, c));
+        }
+        Judged::TwoEdges(s, c) => {
+            return refused(Refusal::two_edges(s, c));
+        }
     }
 }
 
@@ -80,21 +86,21 @@ pub fn measure(period: usize, text: &[u8]) -> Measured
     match answer {
         Verdict::Refused(_) => {
             let ranges = no_ranges();
-            Measured {
+            return Measured {
                 parsed,
                 ranges,
                 states: 0,
-            }
+            };
         }
         Verdict::Accepted => {
             let t = parsed.text;
             let ranges = clocks_states::ranges_of(t);
             let states = clocks_states::state_count_of(t.location_count, ranges);
-            Measured {
+            return Measured {
                 parsed,
                 ranges,
                 states,
-            }
+            };
         }
     }
 }
@@ -109,12 +115,14 @@ pub fn judge(m: Measured, moves: &mut [u16], holds: &mut [u8]) -> Reading
     let parsed = m.parsed;
     let answer = parsed.answer;
     match answer {
-        Verdict::Refused(f) => refused(f),
+        Verdict::Refused(f) => {
+            return refused(f);
+        }
         Verdict::Accepted => {
             let t = parsed.text;
             let ranges = m.ranges;
             let j = clocks_table::judge(t, ranges, m.states, moves, holds);
-            answer_of(j, t, m.states)
+            return answer_of(j, t, m.states);
         }
     }
 }

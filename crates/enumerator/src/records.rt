@@ -2,10 +2,12 @@
 // (SPECIFICATION 4.7, 5.3).
 use super::numbers::medium;
 use super::numbers::small;
+use limits::CLOCK_LIMIT;
 use limits::COMPARISON_LIMIT;
 use limits::EDGE_LIMIT;
 use limits::LOCATION_LIMIT;
 use reader_record::Constraint;
+use reader_record::Edge;
 use reader_record::Text;
 
 fn same_bounds(g: Constraint, h: Constraint) -> bool {
@@ -36,13 +38,25 @@ fn same_invariants(t: Text, u: Text) -> bool {
     true
 }
 
-fn same_guards(t: Text, u: Text) -> bool {
+// Whether two edges assign the same clocks, with the same value and the same largest one written.
+fn same_assignments(e: Edge, f: Edge) -> bool {
+    for k in 0..CLOCK_LIMIT {
+        let a = e.assignments[k];
+        let b = f.assignments[k];
+        if a.made != b.made || a.value != b.value || a.largest != b.largest {
+            return false;
+        }
+    }
+    true
+}
+
+fn same_edges(t: Text, u: Text) -> bool {
     for i in 0..EDGE_LIMIT {
         let e = t.edges[i];
         let f = u.edges[i];
         let g = e.guard;
         let h = f.guard;
-        if i < t.edge_count && !same_bounds(g, h) {
+        if i < t.edge_count && !(same_bounds(g, h) && same_assignments(e, f)) {
             return false;
         }
     }
@@ -56,5 +70,5 @@ pub fn same_constants(t: Text, u: Text) -> bool {
     if t.edge_count != u.edge_count {
         return false;
     }
-    same_invariants(t, u) && same_guards(t, u)
+    same_invariants(t, u) && same_edges(t, u)
 }

@@ -13,6 +13,7 @@ use super::names::made_name;
 use super::names::numeral;
 use super::names::underscores;
 use super::names::word;
+use enumerator::numbers::NOWHERE;
 use enumerator::numbers::medium;
 use enumerator::numbers::plus;
 use enumerator::numbers::quotient;
@@ -157,31 +158,38 @@ fn locations(s: &[u8], at: usize, y: Layout, l: Text, r: Text) -> usize {
     word(s, place, b"; ")
 }
 
-// Whether an edge resets its text's clock k.
-fn is_reset(e: Edge, k: usize) -> bool {
-    let resets = e.resets;
+// What an edge sets its text's clock k to, NOWHERE if it does not assign it.
+fn value_of(e: Edge, k: usize) -> usize {
     if k < CLOCK_LIMIT {
-        return resets[k];
+        let a = e.assignments[k];
+        if a.made {
+            return medium(a.value);
+        }
     }
-    false
+    NOWHERE
 }
 
-// Whether a pair of edges resets clock k of the joined text.
-fn is_pair_reset(e: Edge, f: Edge, y: Layout, k: usize) -> bool {
+// What a pair of edges sets clock k of the joined text to.
+fn pair_value(e: Edge, f: Edge, y: Layout, k: usize) -> usize {
     if k < y.left_clocks {
-        return is_reset(e, k);
+        return value_of(e, k);
     }
     let own = std::num::wrapping_sub_usize(k, y.left_clocks);
-    own < y.right_clocks && is_reset(f, own)
+    if own < y.right_clocks {
+        return value_of(f, own);
+    }
+    NOWHERE
 }
 
-fn resets(s: &[u8], at: usize, y: Layout, e: Edge, f: Edge) -> usize {
+fn assignments(s: &[u8], at: usize, y: Layout, e: Edge, f: Edge) -> usize {
     let mut place = at;
     for k in 0..CLOCK_LIMIT {
-        if is_pair_reset(e, f, y, k) {
+        let value = pair_value(e, f, y, k);
+        if value != NOWHERE {
             place = either(s, place, place == at, b"assign ", b", ");
             place = made_name(s, place, y.underscores, CLOCK, k);
-            place = word(s, place, b"= 0 ");
+            place = word(s, place, b"= ");
+            place = numeral(s, place, value);
         }
     }
     if place == at {
@@ -210,7 +218,7 @@ fn edge(s: &[u8], at: usize, y: Layout, e: Edge, f: Edge, left: &[u8], name: Nam
     let sync = word(s, guard, b"sync ");
     let channel = channel_name(s, sync, left, name);
     let label = mark(s, channel, e);
-    let assign = resets(s, label, y, e, f);
+    let assign = assignments(s, label, y, e, f);
     word(s, assign, b"} ")
 }
 

@@ -1,6 +1,8 @@
 // Which edges of two texts match, and whether the joined text would pass a limit (SPECIFICATION 18.4, 18.8). Every pair
 // is tried.
+use enumerator::late::sets_late;
 use enumerator::numbers::NOWHERE;
+use enumerator::numbers::medium;
 use enumerator::numbers::plus;
 use enumerator::numbers::quotient;
 use enumerator::numbers::remainder;
@@ -177,18 +179,50 @@ fn is_among(others: &[usize], c: usize) -> bool {
     false
 }
 
+// The value that an edge sets the clock to, which is the only one that is written (SPECIFICATION 18.5); m if that is
+// larger.
+fn largest_assigned(e: Edge, clock: usize, m: usize) -> usize {
+    if clock < CLOCK_LIMIT {
+        let a = e.assignments[clock];
+        if a.made && m < medium(a.value) {
+            return medium(a.value);
+        }
+    }
+    m
+}
+
 // The number of values of a clock by the constants that are written: those of all invariants, and those of the guards
-// of edges that match one.
+// and assignments of edges that match one.
 fn range_of(t: Text, own: &[usize], others: &[usize], clock: usize) -> usize {
     let mut m = largest_in_invariants(t, clock);
     for i in 0..EDGE_LIMIT {
         if is_among(others, entry(own, i)) {
             let e = t.edges[i];
             let g = e.guard;
-            m = largest_in(g, clock, m);
+            m = largest_assigned(e, clock, largest_in(g, clock, m));
         }
     }
     plus(m, PAST_LARGEST)
+}
+
+// Whether an edge that matches one of the other text sets a clock to another value than 0.
+fn has_late_match(t: Text, own: &[usize], others: &[usize]) -> bool {
+    for i in 0..EDGE_LIMIT {
+        if is_among(others, entry(own, i)) {
+            let e = t.edges[i];
+            if sets_late(e) {
+                return true;
+            }
+        }
+    }
+    false
+}
+
+// Whether an edge of the joined text sets a clock to another value than 0: a caller counts such texts.
+pub fn joins_late(l: Text, r: Text, c: Channels) -> bool {
+    let left = c.left;
+    let right = c.right;
+    has_late_match(l, &left, &right) || has_late_match(r, &right, &left)
 }
 
 // The product of the numbers of values of a text's clocks.

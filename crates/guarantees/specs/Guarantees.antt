@@ -3,8 +3,8 @@
 -- join-outcome), which the contracts of the operations equate with what the code answers and leaves in the lent slices.
 -- The words are defined in Texts.antt and, for systems, in crate systems, Definitions.antt, in crate reachable,
 -- Meaning.antt, and in crate demands, Words.antt; what each demand asks, clause by clause, is a record or a type of cases
--- in crate demands, Demands.antt and Answers.antt, and in Demands.antt, Implementations.antt, Lengths.antt, Parallel.antt
--- and Joining.antt here. The other files of this crate are laws: the operations on two texts are instances of those on
+-- in crate demands, Demands.antt and Answers.antt, and in Demands.antt, Implementations.antt, Lengths.antt, Parallel.antt,
+-- Assignments.antt and Joining.antt here. The other files of this crate are laws: the operations on two texts are instances of those on
 -- two systems.
 use mathlib.Core.Path.{_≡_, subst}
 use mathlib.Core.Logic.{_↔_}
@@ -42,6 +42,8 @@ use Rattle.guarantees.specs.Lengths.{Ticks-demand, Length-demand}
 use Rattle.guarantees.specs.Allowed.{ticks-promised, length-promised}
 use Rattle.guarantees.specs.Parallel.{Parallel-demand}
 use Rattle.guarantees.specs.OneMove.{parallel-promised}
+use Rattle.guarantees.specs.Assignments.{Assignments-demand}
+use Rattle.guarantees.specs.Assigned.{assignments-promised}
 use Rattle.guarantees.specs.Joining.{Join-demand}
 use Rattle.guarantees.specs.Joins.{join-promised}
 use Rattle.guarantees.specs.Counted as counted
@@ -85,6 +87,12 @@ module _ (period : ℕ) where
   -- to one state, make one move (SPECIFICATION 17.12).
   pub parallel-exactly : (s : List ℕ) → Parallel-demand period s (read-outcome period s .answer)
   parallel-exactly = parallel-promised period
+
+  -- The assignments of an accepted text, as reading hands them out: what they are, that they count towards M, that a
+  -- clock has the value assigned in the configuration and in the state that an edge leads to, and that the target's
+  -- invariant is asked there (SPECIFICATION 17.13).
+  pub assignments-mean : (s : List ℕ) → Accepted-text period s → Assignments-demand (text-of period s)
+  assignments-mean s a = assignments-promised (text-of period s) (read-accepted period s a .accepted)
 
   -- Joining, for every two texts and every slice: when 25 and 26 come, and that the joined text is accepted with tick
   -- length 1 and satisfied by exactly the implementations that satisfy both texts (SPECIFICATION 17.10).

@@ -11,5 +11,7 @@ pub mod Lengths
 pub mod Allowed
 pub mod Parallel
 pub mod OneMove
+pub mod Assignments
+pub mod Assigned
 pub mod Joining
 pub mod Joins

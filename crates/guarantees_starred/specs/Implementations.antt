@@ -1,21 +1,22 @@
--- The implementation check on the texts' bytes (SPECIFICATION 16.8), Sheet by tick lengths (SPECIFICATION 16.9), and texts
--- with two edges for one input (SPECIFICATION 16.10), computed.
+-- The implementation check on the texts' bytes (SPECIFICATION 16.8), Sheet by tick lengths (SPECIFICATION 16.9), texts
+-- with two edges for one input (SPECIFICATION 16.10), and late clocks (SPECIFICATION 16.11), computed.
 use mathlib.Core.Path.{_≡_, refl, ap, _∙_}
 use mathlib.Core.Bool.{true}
 use mathlib.Core.List.{List}
 use Prim.Native.Nat.{ℕ}
 use Rattle.refusals.specs.declared.Refusal.{Refusal}
-use Rattle.refusals.specs.Refusals.{constant-too-large, two-edges, output-beside-tick, neither-possible, tick-out-of-range}
+use Rattle.refusals.specs.Refusals.{constant-too-large, input-without-move, two-edges, output-beside-tick, neither-possible, tick-out-of-range}
 use Rattle.refusals.specs.declared.Verdict.the-variants.{Accepted, Refused}
 use Rattle.reader_record.specs.declared.Text.{Text}
-use Rattle.reader_examples.specs.Texts.{post, rearm, early, strict, loose, sheet, hush, idle, spare, twice, stay-or-go, reset-or-not}
-use Rattle.reader_examples.specs.Records.{post-record, rearm-record, early-record, strict-record, loose-record, sheet-record, hush-record, idle-record, spare-record, twice-record, stay-or-go-record, reset-or-not-record}
-use Rattle.reader_examples.specs.Read.{loose-read, spare-read, sheet-read, sheet-refused, stay-or-go-read, reset-or-not-read}
+use Rattle.reader_examples.specs.Texts.{post, rearm, early, strict, loose, sheet, hush, idle, spare, twice, stay-or-go, reset-or-not, woken, overridden, too-late, late-or-not}
+use Rattle.reader_examples.specs.Records.{post-record, rearm-record, early-record, strict-record, loose-record, sheet-record, hush-record, idle-record, spare-record, twice-record, stay-or-go-record, reset-or-not-record, woken-record, too-late-record, late-or-not-record}
+use Rattle.reader_examples.specs.Read.{loose-read, spare-read, sheet-read, sheet-refused, stay-or-go-read, reset-or-not-read, too-late-read, late-or-not-read}
 use Rattle.reachable.specs.declared.Finding.{Finding}
 use Rattle.reachable.specs.declared.Finding.the-variants.{Nothing, OutputBesideTick, NeitherPossible}
 use Rattle.reachable.specs.Examples.{opened-check}
 use Rattle.reachable.specs.Check.{neither}
-use Rattle.clocks.specs.declared.Judged.the-variants.{TwoEdges}
+use Rattle.clocks.specs.declared.Judged.{Judged}
+use Rattle.clocks.specs.declared.Judged.the-variants.{NoMove, TwoEdges}
 use Rattle.clocks.specs.States.{input, next, judgement}
 use Rattle.clocks_read.specs.declared.Reading.{Reading}
 use Rattle.clocks_read.specs.Reading.{refused, judged-reading, parsed-reading, read-outcome}
@@ -24,7 +25,7 @@ use Rattle.reader.specs.Reading.{read-text}
 use Rattle.reader_lists.specs.State.{no-text}
 use Rattle.implementation_check.specs.Outcome.{text-finding, found-answer, answered, implementation-outcome}
 use Rattle.guarantees_starred.specs.Opened.{opened-states}
-use Rattle.guarantees_starred.specs.Posts.{reading-of, read-known, post-known, rearm-known, early-known, strict-known, hush-known, idle-known, twice-known}
+use Rattle.guarantees_starred.specs.Posts.{reading-of, read-known, post-known, rearm-known, early-known, strict-known, hush-known, idle-known, twice-known, woken-known, overridden-known}
 use Rattle.limits.specs.Limits.{shortest-tick}
 
 -- a text s that reads to the record t, in which f is found
@@ -135,16 +136,34 @@ pub twice-passes : implementation-outcome shortest-tick twice ≡ Accepted
 unfolding opened-states opened-check text-finding found-answer
 twice-passes = found shortest-tick twice twice-record Nothing (twice-known .read) refl
 
--- where the second of two edges leads elsewhere: to another location, or with another value of x where it is not 0
-judged-so : (s : List ℕ) (t : Text) (n c : ℕ) → read-text shortest-tick s ≡ record { answer = Accepted; text = t }
-    → judgement t ≡ TwoEdges n c → read-outcome shortest-tick s .answer ≡ Refused (two-edges n c)
-unfolding read-outcome parsed-reading judged-reading refused
-judged-so s t n c e q = ap (λ (p : Parsed). parsed-reading (p .answer) (p .text) .answer) e ∙ rw q
+-- a text whose record is judged so
+judged-so : (s : List ℕ) (t : Text) (j : Judged) → read-text shortest-tick s ≡ record { answer = Accepted; text = t }
+    → judgement t ≡ j → read-outcome shortest-tick s .answer ≡ judged-reading j t .answer
+unfolding read-outcome parsed-reading
+judged-so s t j e q = ap (λ (p : Parsed). parsed-reading (p .answer) (p .text) .answer) e ∙ rw q
 
+-- where the second of two edges leads elsewhere: to another location, or with another value of x where it is not 0
 pub stay-refused : read-outcome shortest-tick stay-or-go .answer ≡ Refused (two-edges 0 1)
-unfolding opened-states
-stay-refused = judged-so stay-or-go stay-or-go-record 0 1 stay-or-go-read refl
+unfolding opened-states judged-reading refused
+stay-refused = judged-so stay-or-go stay-or-go-record (TwoEdges 0 1) stay-or-go-read refl
 
 pub reset-refused : read-outcome shortest-tick reset-or-not .answer ≡ Refused (two-edges 1 1)
-unfolding opened-states
-reset-refused = judged-so reset-or-not reset-or-not-record 1 1 reset-or-not-read refl
+unfolding opened-states judged-reading refused
+reset-refused = judged-so reset-or-not reset-or-not-record (TwoEdges 1 1) reset-or-not-read refl
+
+-- late clocks: Woken is an implementation; an overridden value counts towards M; a value that the target's invariant does
+-- not allow gives no move; an edge that sets x to 1 leads elsewhere than one that leaves it at 0
+pub woken-passes : implementation-outcome shortest-tick woken ≡ Accepted
+unfolding opened-states opened-check text-finding found-answer
+woken-passes = found shortest-tick woken woken-record Nothing (woken-known .read) refl
+
+pub overridden-count : read-outcome shortest-tick overridden .states ≡ 18
+overridden-count = ap (λ (o : Reading). o .states) (overridden-known .read) ∙ overridden-known .size
+
+pub too-late-refused : read-outcome shortest-tick too-late .answer ≡ Refused (input-without-move 0 2)
+unfolding opened-states judged-reading refused
+too-late-refused = judged-so too-late too-late-record (NoMove 0 2) too-late-read refl
+
+pub late-refused : read-outcome shortest-tick late-or-not .answer ≡ Refused (two-edges 0 2)
+unfolding opened-states judged-reading refused
+late-refused = judged-so late-or-not late-or-not-record (TwoEdges 0 2) late-or-not-read refl

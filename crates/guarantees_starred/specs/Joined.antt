@@ -10,7 +10,7 @@ use lib.ListN.{length, take, drop}
 use Rattle.limits.specs.Limits.{shortest-tick, largest-text, state-limit}
 use Rattle.refusals.specs.Refusals.{out-too-short}
 use Rattle.reader_record.specs.declared.Text.{Text}
-use Rattle.reader_examples.specs.Texts.{post, idle, twice}
+use Rattle.reader_examples.specs.Texts.{post, overridden, idle, twice}
 use Rattle.clocks.specs.States.{state-count}
 use Rattle.clocks_read.specs.declared.Reading.{Reading}
 use Rattle.pairing.specs.declared.Matched.the-variants.{Equal}
@@ -20,7 +20,8 @@ use Rattle.joined.specs.Joined.{joined-text, counts-fit}
 use Rattle.joined.specs.Formed.{fits-means}
 use Rattle.written.specs.Underscores.{written-text}
 use Rattle.written_names.specs.Spelled.{channel-spellings}
-use Rattle.joined_written.specs.Example.{post-idle-text, post-idle-written, post-idle-fits, post-idle-states, twice-twice-text, twice-twice-written, twice-twice-fits, twice-twice-states}
+use Rattle.joined.specs.Examples.{post-overridden-states}
+use Rattle.joined_written.specs.Example.{post-idle-text, post-idle-written, post-idle-fits, post-idle-states, post-overridden-text, post-overridden-written, post-overridden-fits, twice-twice-text, twice-twice-written, twice-twice-fits, twice-twice-states}
 use Rattle.joining.specs.declared.JoinAnswer.{JoinAnswer}
 use Rattle.joining.specs.declared.JoinAnswer.the-variants.{Written, Refused}
 use Rattle.joining.specs.Outcome.{Outcome, joined-record, joined-bytes, join-outcome}
@@ -28,8 +29,8 @@ use Rattle.guarantees.specs.Texts.{Accepted-text}
 use Rattle.guarantees.specs.Joining.{Within, Joins, Joinable}
 use Rattle.guarantees.specs.Setting.{nothing-found}
 use Rattle.guarantees.specs.Guarantees.{joining-exactly}
-use Rattle.guarantees_starred.specs.Posts.{Known, post-known, idle-known, twice-known}
-use Rattle.guarantees_starred.specs.Runs.{post-idle-equal, twice-twice-equal}
+use Rattle.guarantees_starred.specs.Posts.{Known, post-known, overridden-known, idle-known, twice-known}
+use Rattle.guarantees_starred.specs.Runs.{post-idle-equal, post-overridden-equal, twice-twice-equal}
 use Rattle.guarantees_starred.specs.Outcomes.{left-accepted, right-accepted, channels-equal}
 
 both : (o : Outcome) (a : JoinAnswer) (z : List ℕ) → o .answer ≡ a → o .out ≡ z → o ≡ record { answer = a; out = z }
@@ -108,6 +109,19 @@ pub post-idle-too-short : (out : List ℕ) → length out < 386
     ≡ record { answer = Refused (record { code = 26; file = 0; p = 386; q = 0 }); out = out }
 post-idle-too-short = too-short post-known idle-known post-idle-equal post-idle-text post-idle-written post-idle-fits
     (omega (arith, post-idle-states)) (omega arith)
+
+-- Post with a text that assigns 7 and then 1: the last value is written, once (SPECIFICATION 16.11, 18.5)
+pub post-overridden-written-out : (out : List ℕ) → 497 ≤ length out
+    → join-outcome shortest-tick post overridden out
+    ≡ record { answer = Written 497; out = post-overridden-text ++ drop 497 out }
+post-overridden-written-out = written-out post-known overridden-known post-overridden-equal post-overridden-text
+    post-overridden-written post-overridden-fits (omega (arith, post-overridden-states)) (omega arith)
+
+pub post-overridden-joins : (out : List ℕ) → 497 ≤ length out
+    → (a : Accepted-text shortest-tick post) × (b : Accepted-text shortest-tick overridden)
+    × Joins shortest-tick post overridden a b (take 497 (join-outcome shortest-tick post overridden out .out))
+post-overridden-joins = written-joins post-known overridden-known post-overridden-equal post-overridden-text
+    post-overridden-written post-overridden-fits (omega (arith, post-overridden-states)) (omega arith)
 
 -- Twice with itself: a joined text with parallel edges, written out, accepted and meaning both
 pub twice-twice-written-out : (out : List ℕ) → 610 ≤ length out

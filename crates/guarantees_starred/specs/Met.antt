@@ -1,7 +1,7 @@
--- That the hypotheses of the demands (SPECIFICATION 17.2, 17.3, 17.8, 17.9, 17.12) can be met: by Post (SPECIFICATION
--- 16.1) against itself, with slices that are long enough, by Sheet at tick length 1,000, and by texts with two edges for
--- one input (SPECIFICATION 16.10).
-use mathlib.Core.Path.{_≡_, sym, ap, subst, _∙_}
+-- That the hypotheses of the demands (SPECIFICATION 17.2, 17.3, 17.8, 17.9, 17.12, 17.13) can be met: by Post
+-- (SPECIFICATION 16.1) against itself, with slices that are long enough, by Sheet at tick length 1,000, by texts with two
+-- edges for one input (SPECIFICATION 16.10), and by texts with late clocks (SPECIFICATION 16.11).
+use mathlib.Core.Path.{_≡_, refl, sym, ap, subst, _∙_}
 use mathlib.Core.Bool.{Bool, true}
 use mathlib.Core.Option.{some}
 use mathlib.Core.List.{List}
@@ -10,16 +10,18 @@ use native.Mathlib.Omega.{arith}
 use lib.Dec.{T}
 use lib.ListN.{length}
 use Rattle.reader_record.specs.declared.Text.{Text}
-use Rattle.reader_record.specs.Record.{edge}
+use Rattle.reader_record.specs.Record.{assignment, edge}
 use Rattle.reader.specs.declared.Parsed.{Parsed}
 use Rattle.reader_formed.specs.Formed.{read-formed}
-use Rattle.reader_examples.specs.Texts.{post, strict, loose, sheet, hush, twice, stay-or-go, reset-or-not}
-use Rattle.reader_examples.specs.Records.{twice-record}
-use Rattle.reader_examples.specs.Read.{twice-read}
-use Rattle.clocks.specs.Meaning.{after, moves, led, start-of}
+use Rattle.reader_examples.specs.Texts.{post, strict, loose, sheet, hush, twice, stay-or-go, reset-or-not, woken-twice}
+use Rattle.reader_examples.specs.Records.{twice-record, woken-twice-record}
+use Rattle.reader_examples.specs.Read.{twice-read, woken-twice-read}
+use Rattle.clocks.specs.Meaning.{clock-value, after, moves, led, start-of}
 use Rattle.clocks.specs.Faults.{edge-gives, Two-ways, None-lower}
 use Rattle.clocks.specs.Standing.{start-stands}
 use Rattle.clocks_read.specs.declared.Reading.{Reading}
+use Rattle.clocks_read.specs.Laws.{read-accepted}
+use Rattle.two_texts.specs.Two.{text-of}
 use Rattle.systems.specs.Tests.{at}
 use Rattle.systems.specs.Finite.{safe}
 use Rattle.reachable.specs.declared.Finding.the-variants.{OutputBesideTick, NeitherPossible}
@@ -32,10 +34,10 @@ use Rattle.demands.specs.Words.{Consistent, Long-enough, search-refusal, check-
 use Rattle.guarantees.specs.Texts.{Accepted-text, states, meaning, number, Equal-channels}
 use Rattle.guarantees.specs.Lengths.{Length-refused}
 use Rattle.guarantees.specs.Parallel.{record-of, States-judged}
-use Rattle.guarantees.specs.Guarantees.{lengths-judged, implementation-exactly, parallel-exactly}
+use Rattle.guarantees.specs.Guarantees.{lengths-judged, implementation-exactly, parallel-exactly, assignments-mean}
 use Rattle.guarantees.specs.Setting.{left-capping, Left}
 use Rattle.guarantees_starred.specs.Opened.{opened-states}
-use Rattle.guarantees_starred.specs.Posts.{post-keep, post-known, strict-known, twice-known}
+use Rattle.guarantees_starred.specs.Posts.{read-known, post-keep, post-known, strict-known, twice-known}
 use Rattle.guarantees_starred.specs.Runs.{post-post-equal, strict-post-equal, twice-post-equal}
 use Rattle.guarantees_starred.specs.Sentences.{Room, ten-by-ten, diagonal-raster}
 use Rattle.guarantees_starred.specs.Tables.{diagonal-fits}
@@ -112,6 +114,52 @@ twice-one-move i h =
     let w = read-formed shortest-tick twice (ap (λ (p : Parsed). p .answer) twice-read) in
     parallel-exactly shortest-tick twice .one-move twice-accepted (start-of t) (start-stands t w) 1 i
     (omega (arith, ap (λ (p : Parsed). p .text .«edge_count») twice-read)) (twice-edges i h)
+
+-- an accepted text with two edges that give a move by one channel at the start and assign one clock: x is 1 after each
+pub woken-twice-accepted : Accepted-text shortest-tick woken-twice
+unfolding opened-states
+woken-twice-accepted = ap (λ (r : Reading). r .answer)
+    (read-known shortest-tick woken-twice woken-twice-record woken-twice-read refl)
+
+woken-twice-text : text-of shortest-tick woken-twice ≡ woken-twice-record
+unfolding opened-states
+woken-twice-text = ap (λ (r : Reading). r .text)
+    (read-known shortest-tick woken-twice woken-twice-record woken-twice-read refl)
+
+-- edges 1 and 2 of it
+pub record Wakes (t : Text) (i : ℕ) : Type 0 where
+  pub there : i < t .«edge_count»
+  pub gives : T (edge-gives t (start-of t) 2 i)
+  pub made : assignment (edge t i) 0 .made ≡ true
+  pub value : assignment (edge t i) 0 .value ≡ 1
+
+pub woken-twice-wakes : (i : ℕ) → 0 < i → i < 3 → Wakes (text-of shortest-tick woken-twice) i
+woken-twice-wakes i l h = subst (λ (t : Text). Wakes t i) (sym woken-twice-text) (here i l h)
+  where
+    here : (i : ℕ) → 0 < i → i < 3 → Wakes woken-twice-record i
+    here zero l h = absurd (omega arith)
+    here (suc zero) l h = record { there = omega arith; gives = unfold opened-states edge-gives in tt; made = refl; value = refl }
+    here (suc (suc zero)) l h = record { there = omega arith; gives = unfold opened-states edge-gives in tt; made = refl; value = refl }
+    here (suc (suc (suc i))) l h = absurd (omega arith)
+
+pub woken-twice-set : (i : ℕ) → 0 < i → i < 3
+    → clock-value (after (edge (text-of shortest-tick woken-twice) i) (start-of (text-of shortest-tick woken-twice))) 0 ≡ 1
+woken-twice-set i l h =
+    let t = text-of shortest-tick woken-twice in
+    let w = woken-twice-wakes i l h in
+    assignments-mean shortest-tick woken-twice woken-twice-accepted .set i 0 (w .there) (w .made) (start-of t) ∙ w .value
+
+pub woken-twice-alike : (i j : ℕ) → 0 < i → i < 3 → 0 < j → j < 3
+    → assignment (edge (text-of shortest-tick woken-twice) i) 0 .value
+    ≡ assignment (edge (text-of shortest-tick woken-twice) j) 0 .value
+woken-twice-alike i j k l m n =
+    let t = text-of shortest-tick woken-twice in
+    let a = woken-twice-accepted in
+    let v = woken-twice-wakes i k l in
+    let w = woken-twice-wakes j m n in
+    let s = start-stands t (read-accepted shortest-tick woken-twice a .accepted .formed) in
+    assignments-mean shortest-tick woken-twice a .alike (start-of t) s 2 i j 0 (v .there) (w .there) (v .gives) (w .gives)
+    (v .made) (w .made)
 
 -- equal channels
 pub post-channels : Equal-channels shortest-tick post post

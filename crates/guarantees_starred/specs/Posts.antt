@@ -1,4 +1,4 @@
--- Seven of the texts, read and judged: accepted, and the safe states of each, computed.
+-- Nine of the texts, read and judged: accepted, and the safe states of each, computed.
 use mathlib.Core.Path.{_≡_, refl, sym, ap, _∙_}
 use mathlib.Core.Bool.{Bool, true, false}
 use mathlib.Core.List.{List, [], _∷_}
@@ -9,9 +9,9 @@ use Rattle.reader_record.specs.declared.Text.{Text}
 use Rattle.refusals.specs.declared.Verdict.the-variants as verdict
 use Rattle.reader.specs.declared.Parsed.{Parsed}
 use Rattle.reader.specs.Reading.{read-text}
-use Rattle.reader_examples.specs.Texts.{post, rearm, early, strict, hush, idle, twice}
-use Rattle.reader_examples.specs.Records.{post-record, rearm-record, early-record, strict-record, hush-record, idle-record, twice-record}
-use Rattle.reader_examples.specs.Read.{post-read, rearm-read, early-read, strict-read, hush-read, idle-read, twice-read}
+use Rattle.reader_examples.specs.Texts.{post, rearm, woken, overridden, early, strict, hush, idle, twice}
+use Rattle.reader_examples.specs.Records.{post-record, rearm-record, woken-record, overridden-record, early-record, strict-record, hush-record, idle-record, twice-record}
+use Rattle.reader_examples.specs.Read.{post-read, rearm-read, woken-read, overridden-read, early-read, strict-read, hush-read, idle-read, twice-read}
 use Rattle.clocks.specs.declared.Judged.the-variants.{Clean}
 use Rattle.clocks.specs.Accepted.{Accepted}
 use Rattle.clocks.specs.States.{state-count, start-state, judgement}
@@ -98,3 +98,18 @@ idle-known = known idle-read refl refl refl (λ a. refl)
 pub twice-known : Known twice twice-record 10 post-keep
 unfolding opened
 twice-known = known twice-read refl refl refl (λ a. refl)
+
+-- and so are those of Woken
+pub woken-known : Known woken woken-record 10 post-keep
+unfolding opened
+woken-known = known woken-read refl refl refl (λ a. refl)
+
+-- with a value of 7 that is overridden there are 9 values of x, of which Wait allows 4
+abbrev pub overridden-keep : List Bool
+overridden-keep =
+    true ∷ true ∷ true ∷ true ∷ false ∷ false ∷ false ∷ false ∷ false
+    ∷ true ∷ true ∷ true ∷ true ∷ true ∷ true ∷ true ∷ true ∷ true ∷ []
+
+pub overridden-known : Known overridden overridden-record 18 overridden-keep
+unfolding opened
+overridden-known = known overridden-read refl refl refl (λ a. refl)

@@ -8,14 +8,14 @@ use Rattle.systems.specs.Finite.{Finite-system, search-run}
 use Rattle.systems.specs.Renumbered.{renumbered}
 use Rattle.systems.specs.Compute.{search-by}
 use Rattle.reader_record.specs.declared.Text.{Text}
-use Rattle.reader_examples.specs.Texts.{post, rearm, early, strict, hush, idle, twice}
-use Rattle.reader_examples.specs.Records.{post-record, rearm-record, early-record, strict-record, hush-record, idle-record, twice-record}
+use Rattle.reader_examples.specs.Texts.{post, rearm, woken, overridden, early, strict, hush, idle, twice}
+use Rattle.reader_examples.specs.Records.{post-record, rearm-record, woken-record, overridden-record, early-record, strict-record, hush-record, idle-record, twice-record}
 use Rattle.clocks.specs.Accepted.{Accepted}
 use Rattle.clocks.specs.Contract.{signature, system}
 use Rattle.pairing.specs.Channels.{unmatched, right-step}
 use Rattle.pairing.specs.declared.Matched.the-variants.{Equal}
 use Rattle.guarantees_starred.specs.Opened.{opened-states, opened-pairing, opened}
-use Rattle.guarantees_starred.specs.Posts.{post-keep, post-known, rearm-keep, rearm-known, early-keep, early-known, strict-keep, strict-known, idle-keep, idle-known, twice-known}
+use Rattle.guarantees_starred.specs.Posts.{post-keep, post-known, rearm-keep, rearm-known, early-keep, early-known, strict-keep, strict-known, idle-keep, idle-known, twice-known, woken-known, overridden-keep, overridden-known}
 
 -- what is known of two records that are compared, s and u being the bytes of their texts
 pub record Pair (s u : List ℕ) (l r : Text) : Type 0 where
@@ -78,6 +78,26 @@ pub twice-twice-equal : unmatched twice twice-record twice twice-record ≡ Equa
 unfolding opened-states opened-pairing
 twice-twice-equal = refl
 
+pub woken-post-equal : unmatched woken woken-record post post-record ≡ Equal
+unfolding opened-states opened-pairing
+woken-post-equal = refl
+
+pub post-woken-equal : unmatched post post-record woken woken-record ≡ Equal
+unfolding opened-states opened-pairing
+post-woken-equal = refl
+
+pub overridden-woken-equal : unmatched overridden overridden-record woken woken-record ≡ Equal
+unfolding opened-states opened-pairing
+overridden-woken-equal = refl
+
+pub woken-overridden-equal : unmatched woken woken-record overridden overridden-record ≡ Equal
+unfolding opened-states opened-pairing
+woken-overridden-equal = refl
+
+pub post-overridden-equal : unmatched post post-record overridden overridden-record ≡ Equal
+unfolding opened-states opened-pairing
+post-overridden-equal = refl
+
 -- the runs that the search finds
 pub post-post-run : (p : Pair post post post-record post-record) → search-run (left-of p) (right-of p) ≡ []
 unfolding opened
@@ -123,3 +143,23 @@ pub rearm-post-run : (p : Pair rearm post rearm-record post-record) → search-r
     ≡ tick ∷ tick ∷ tick ∷ 2 ∷ tick ∷ []
 unfolding opened
 rearm-post-run p = search-by (left-of p) (right-of p) rearm-keep (rearm-known .safe (p .left-text)) tt
+
+pub woken-post-run : (p : Pair woken post woken-record post-record) → search-run (left-of p) (right-of p)
+    ≡ 2 ∷ tick ∷ tick ∷ 3 ∷ []
+unfolding opened
+woken-post-run p = search-by (left-of p) (right-of p) post-keep (woken-known .safe (p .left-text)) tt
+
+pub post-woken-run : (p : Pair post woken post-record woken-record) → search-run (left-of p) (right-of p)
+    ≡ 2 ∷ tick ∷ tick ∷ tick ∷ []
+unfolding opened
+post-woken-run p = search-by (left-of p) (right-of p) post-keep (post-known .safe (p .left-text)) tt
+
+pub overridden-woken-run : (p : Pair overridden woken overridden-record woken-record)
+    → search-run (left-of p) (right-of p) ≡ []
+unfolding opened
+overridden-woken-run p = search-by (left-of p) (right-of p) overridden-keep (overridden-known .safe (p .left-text)) tt
+
+pub woken-overridden-run : (p : Pair woken overridden woken-record overridden-record)
+    → search-run (left-of p) (right-of p) ≡ []
+unfolding opened
+woken-overridden-run p = search-by (left-of p) (right-of p) post-keep (woken-known .safe (p .left-text)) tt

@@ -7,8 +7,8 @@ use lib.Dec.{ltb}
 use lib.ListN.{length}
 use borrow.Author.Tests.{le-ltb}
 use Rattle.reader_record.specs.declared.Text.{Text}
-use Rattle.reader_examples.specs.Texts.{post, strict, hush, twice}
-use Rattle.reader_examples.specs.Records.{post-record, strict-record, hush-record, twice-record}
+use Rattle.reader_examples.specs.Texts.{post, strict, hush, twice, woken}
+use Rattle.reader_examples.specs.Records.{post-record, strict-record, hush-record, twice-record, woken-record}
 use Rattle.systems.specs.Tests.{at, ones}
 use Rattle.clocks.specs.States.{state-count, start-state}
 use Rattle.clocks.specs.Safe.{safe-states}
@@ -19,7 +19,7 @@ use Rattle.clocks_read.specs.declared.Reading.{Reading}
 use Rattle.clocks_read.specs.Laws.{read-accepted}
 use Rattle.safe_states.specs.declared.SafeAnswer.the-variants.{Found}
 use Rattle.safe_states.specs.Outcome.{Outcome, found-outcome, kept-outcome, answered, safe-outcome}
-use Rattle.guarantees_starred.specs.Posts.{Known, post-keep, post-known, strict-keep, strict-known, hush-keep, hush-known, twice-known}
+use Rattle.guarantees_starred.specs.Posts.{Known, post-keep, post-known, strict-keep, strict-known, hush-keep, hush-known, twice-known, woken-known}
 use Rattle.limits.specs.Limits.{shortest-tick}
 
 -- a text that reads to the record t, whose safe states are K
@@ -42,7 +42,7 @@ safe-found s t n K x keep h =
         ≡ found-outcome t keep
     long t keep l = rw (l, kept-outcome)
 
--- the safe states of Post, of Strict, of Hush and of Twice (SPECIFICATION 16.2, 16.3, 16.10)
+-- the safe states of Post, of Strict, of Hush, of Twice and of Woken (SPECIFICATION 16.2, 16.3, 16.10, 16.11)
 pub post-counted : (keep : List ℕ) → 2 ≤ length keep → safe-outcome shortest-tick post keep .answer ≡ Found 9 true
 unfolding ones
 post-counted = safe-found post post-record 10 post-keep post-known
@@ -58,3 +58,7 @@ hush-counted = safe-found hush hush-record 10 hush-keep hush-known
 pub twice-counted : (keep : List ℕ) → 2 ≤ length keep → safe-outcome shortest-tick twice keep .answer ≡ Found 9 true
 unfolding ones
 twice-counted = safe-found twice twice-record 10 post-keep twice-known
+
+pub woken-counted : (keep : List ℕ) → 2 ≤ length keep → safe-outcome shortest-tick woken keep .answer ≡ Found 9 true
+unfolding ones
+woken-counted = safe-found woken woken-record 10 post-keep woken-known

@@ -5,7 +5,7 @@ use mathlib.Core.Bool.{true, false}
 use mathlib.Core.List.{List, [], _∷_, _++_}
 use Prim.Native.Nat.{ℕ, _*_, _≤_}
 use lib.ListN.{length, drop}
-use Rattle.reader_examples.specs.Texts.{post, rearm, early, strict, loose, sheet, hush, idle, spare, twice, stay-or-go, reset-or-not}
+use Rattle.reader_examples.specs.Texts.{post, rearm, early, strict, loose, sheet, hush, idle, spare, twice, stay-or-go, reset-or-not, woken, overridden, too-late, late-or-not}
 use Rattle.refusals.specs.declared.Verdict.the-variants as verdict
 use Rattle.systems.specs.Definitions.{tick}
 use Rattle.reachable.specs.Check.{neither}
@@ -166,3 +166,19 @@ pub record Starred : Type 0 where
       ≡ verdict.Refused (record { code = 11; file = 1; p = 0; q = 1 })
   pub reset-refused : read-outcome shortest-tick reset-or-not .answer
       ≡ verdict.Refused (record { code = 11; file = 1; p = 1; q = 1 })
+  -- Woken: its states and safe states, that it is an implementation, and its departures (SPECIFICATION 16.11)
+  pub woken-states : read-outcome shortest-tick woken .states ≡ 10
+  pub woken-safe : (keep : List ℕ) → 2 ≤ length keep → safe-outcome shortest-tick woken keep .answer
+      ≡ counted.Found 9 true
+  pub woken-passes : implementation-outcome shortest-tick woken ≡ verdict.Accepted
+  pub woken-post : Searches woken post 10 10 4 (2 ∷ tick ∷ tick ∷ 3 ∷ [])
+  pub post-woken : Searches post woken 10 10 4 (2 ∷ tick ∷ tick ∷ tick ∷ [])
+  -- where 7 is overridden by 1, 7 counts towards M, and nothing departs from Woken either way (SPECIFICATION 16.11)
+  pub overridden-states : read-outcome shortest-tick overridden .states ≡ 18
+  pub overridden-woken : Searches overridden woken 18 10 0 []
+  pub woken-overridden : Searches woken overridden 10 18 0 []
+  -- 10 where Wait's invariant does not allow the value, and 11 beside an edge that assigns nothing (SPECIFICATION 16.11)
+  pub too-late-refused : read-outcome shortest-tick too-late .answer
+      ≡ verdict.Refused (record { code = 10; file = 1; p = 0; q = 2 })
+  pub late-refused : read-outcome shortest-tick late-or-not .answer
+      ≡ verdict.Refused (record { code = 11; file = 1; p = 0; q = 2 })

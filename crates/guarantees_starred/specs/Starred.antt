@@ -32,10 +32,10 @@ use Rattle.tables.specs.declared.WidestAnswer.{WidestAnswer}
 use Rattle.tables.specs.declared.WidestAnswer.the-variants as made
 use Rattle.tables.specs.Outcome.{Checked, check-refused, scanned, Widened, widest-refused}
 use Rattle.guarantees_starred.specs.Sentences.{widest-raster, diagonal-raster, start-raster, ten-by-ten, hush-kept, Widens-as-post, Starred}
-use Rattle.guarantees_starred.specs.Safe.{post-counted, strict-counted, hush-counted, twice-counted}
-use Rattle.guarantees_starred.specs.Implementations.{post-passes, rearm-passes, early-passes, idle-passes, strict-passes, hush-neither, loose-beside, spare-count, spare-fault, spare-passes, sheet-count, sheet-fewer, sheet-passes, sheet-beside, sheet-longest, sheet-large, sheet-zero, twice-passes, stay-refused, reset-refused}
-use Rattle.guarantees_starred.specs.Posts.{Known, hush-keep, post-known, rearm-known, early-known, strict-known, hush-known, idle-known, twice-known}
-use Rattle.guarantees_starred.specs.Runs.{Pair, left-of, right-of, post-post-equal, early-post-equal, idle-post-equal, post-idle-equal, post-hush-equal, rearm-post-equal, hush-post-equal, strict-post-equal, post-strict-equal, twice-post-equal, post-twice-equal, strict-post-run, post-strict-run, twice-post-run, post-twice-run, post-post-run, early-post-run, idle-post-run, post-idle-run, post-hush-run, rearm-post-run}
+use Rattle.guarantees_starred.specs.Safe.{post-counted, strict-counted, hush-counted, twice-counted, woken-counted}
+use Rattle.guarantees_starred.specs.Implementations.{post-passes, rearm-passes, early-passes, idle-passes, strict-passes, hush-neither, loose-beside, spare-count, spare-fault, spare-passes, sheet-count, sheet-fewer, sheet-passes, sheet-beside, sheet-longest, sheet-large, sheet-zero, twice-passes, stay-refused, reset-refused, woken-passes, overridden-count, too-late-refused, late-refused}
+use Rattle.guarantees_starred.specs.Posts.{Known, hush-keep, post-known, rearm-known, early-known, strict-known, hush-known, idle-known, twice-known, woken-known, overridden-known}
+use Rattle.guarantees_starred.specs.Runs.{Pair, left-of, right-of, post-post-equal, early-post-equal, idle-post-equal, post-idle-equal, post-hush-equal, rearm-post-equal, hush-post-equal, strict-post-equal, post-strict-equal, twice-post-equal, post-twice-equal, strict-post-run, post-strict-run, twice-post-run, post-twice-run, post-post-run, early-post-run, idle-post-run, post-idle-run, post-hush-run, rearm-post-run, woken-post-equal, post-woken-equal, overridden-woken-equal, woken-overridden-equal, woken-post-run, post-woken-run, overridden-woken-run, woken-overridden-run}
 use Rattle.guarantees_starred.specs.Tables.{post-pairs, post-widest, twice-post-widest, post-twice-widest, post-count, post-file, file-size, header-size, strict-file-size, strict-file-wide, pairs-of, rearm-pairs, strict-post-pairs, post-strict-pairs, diagonal-judged, start-fault, start-judged, diagonal-count, diagonal-fits, start-fits}
 use Rattle.guarantees_starred.specs.Outcomes.{compares, of-texts, search-unsafe, check-unsafe, widest-unsafe, searched, widened, checked}
 use Rattle.limits.specs.Limits.{shortest-tick}
@@ -145,4 +145,14 @@ starred-posts = record {
   twice-passes = twice-passes;
   stay-refused = stay-refused;
   reset-refused = reset-refused;
+  woken-states = ap (λ (o : Reading). o .states) (woken-known .read) ∙ woken-known .size;
+  woken-safe = woken-counted;
+  woken-passes = woken-passes;
+  woken-post = searched woken-known post-known woken-post-equal refl (2 ∷ tick ∷ tick ∷ 3 ∷ []) woken-post-run;
+  post-woken = searched post-known woken-known post-woken-equal refl (2 ∷ tick ∷ tick ∷ tick ∷ []) post-woken-run;
+  overridden-states = overridden-count;
+  overridden-woken = searched overridden-known woken-known overridden-woken-equal refl [] overridden-woken-run;
+  woken-overridden = searched woken-known overridden-known woken-overridden-equal refl [] woken-overridden-run;
+  too-late-refused = too-late-refused;
+  late-refused = late-refused;
 }

@@ -2,13 +2,11 @@
 -- record that is read from a joined text, and one that code builds in arrays, are such records. Definitions only; laws
 -- in AlikeLaws.antt.
 use mathlib.Core.Path.{_≡_}
-use mathlib.Core.Bool.{false}
 use Prim.Native.Nat.{ℕ, _<_}
-use lib.ListN.{getD}
 use Rattle.reader_record.specs.declared.Constraint.{Constraint}
 use Rattle.reader_record.specs.declared.Edge.{Edge}
 use Rattle.reader_record.specs.declared.Text.{Text}
-use Rattle.reader_record.specs.Record.{comparison, edge, invariant-of}
+use Rattle.reader_record.specs.Record.{comparison, assignment, edge, invariant-of}
 use Rattle.clocks.specs.States.{input}
 
 -- a guard or an invariant: equal comparisons
@@ -21,7 +19,7 @@ pub record Alike-edge (e d : Edge) : Type 0 where
   pub target : d .target ≡ e .target
   pub guard : Alike-constraint (e .guard) (d .guard)
   pub label : d .label ≡ e .label
-  pub resets : (k : ℕ) → getD (d .resets) k false ≡ getD (e .resets) k false
+  pub assignments : (k : ℕ) → assignment d k ≡ assignment e k
 
 -- x says what t says. Of a channel's direction only whether it is an input: all others are outputs (SPECIFICATION 3.6)
 pub record Alike (t x : Text) : Type 0 where

@@ -8,6 +8,7 @@ use borrow.Author.Tests.{le-ltb}
 use Rattle.systems.specs.Bools.{all-same}
 use Rattle.limits.specs.Limits.{state-limit}
 use Rattle.reader_record.specs.declared.Constraint.{Constraint}
+use Rattle.reader_record.specs.declared.Assignment.{Assignment}
 use Rattle.reader_record.specs.declared.Edge.{Edge}
 use Rattle.reader_record.specs.declared.Text.{Text}
 use Rattle.reader_record.specs.Record.{comparison, edge, invariant-of}
@@ -15,8 +16,8 @@ use Rattle.reader_record.specs.Formed.{Well-formed}
 use Rattle.clocks.specs.declared.Config.{Config}
 use Rattle.clocks.specs.declared.Ranges.{Ranges}
 use Rattle.clocks.specs.declared.Moves.{Moves}
-use Rattle.clocks.specs.Meaning.{met, holds, invariant, reset, after, one-if, gives, edge-move, edge-moves, ticked, tick-move, moves, start-of}
-use Rattle.clocks.specs.States.{most, constant-for, largest-in, largest, values, ranges, state-count, config, state-moves, state-invariant, too-many, judgement}
+use Rattle.clocks.specs.Meaning.{met, holds, invariant, assigned, after, one-if, gives, edge-move, edge-moves, ticked, tick-move, moves, start-of}
+use Rattle.clocks.specs.States.{most, constant-for, largest-in, largest-at, largest, values, ranges, state-count, config, state-moves, state-invariant, too-many, judgement}
 use Rattle.clocks.specs.Accepted.{Accepted}
 use Rattle.clocks.specs.Faults.{Deterministic}
 use Rattle.clocks.specs.Judgement.{judged-iff, judgement-judged, judgement-few}
@@ -40,7 +41,7 @@ same-text t = record {
     target = refl;
     guard = same-constraint (edge t i .guard);
     label = refl;
-    resets = λ k. refl;
+    assignments = λ k. refl;
   };
 }
 
@@ -61,13 +62,17 @@ module _ (g h : Constraint) (s : Alike-constraint g h) where
       (λ i. constant-for k (comparison g i)) (λ i l. ap (constant-for k) (s .each i l)))
 
 module _ (e d : Edge) (s : Alike-edge e d) where
-  reset-same : (k v : ℕ) → reset d k v ≡ reset e k v
-  unfolding reset
-  reset-same k v = ap (λ (b : Bool). cond b 0 v) (s .resets k)
+  assigned-same : (k v : ℕ) → assigned d k v ≡ assigned e k v
+  unfolding assigned
+  assigned-same k v = ap (λ (a : Assignment). cond (a .made) (a .value) v) (s .assignments k)
+
+  largest-at-same : (k : ℕ) → largest-at k d ≡ largest-at k e
+  unfolding largest-at
+  largest-at-same k = rw (largest-in-same (e .guard) (d .guard) (s .guard) k, s .assignments k)
 
   after-same : (v : Config) → after d v ≡ after e v
   unfolding after
-  after-same v = rw (reset-same 0 (v .x), reset-same 1 (v .y), reset-same 2 (v .z), s .target)
+  after-same v = rw (assigned-same 0 (v .x), assigned-same 1 (v .y), assigned-same 2 (v .z), s .target)
 
   gives-same : (g h : Constraint) → Alike-constraint g h → (v : Config) (c : ℕ) → gives h d v c ≡ gives g e v c
   unfolding gives
@@ -124,8 +129,8 @@ module _ (t x : Text) (w : Well-formed t) (s : Alike t x) where
   largest-same : (k : ℕ) → largest x k ≡ largest t k
   unfolding largest
   largest-same k =
-      let a = most-same (t .«edge_count») (λ i. largest-in k (edge x i .guard)) (λ i. largest-in k (edge t i .guard))
-      (λ i h. largest-in-same (edge t i .guard) (edge x i .guard) (s .edges i h .guard) k) in
+      let a = most-same (t .«edge_count») (λ i. largest-at k (edge x i)) (λ i. largest-at k (edge t i))
+      (λ i h. largest-at-same (edge t i) (edge x i) (s .edges i h) k) in
       let b = most-same (t .«location_count») (λ i. largest-in k (invariant-of x i))
       (λ i. largest-in k (invariant-of t i))
       (λ i h. largest-in-same (invariant-of t i) (invariant-of x i) (s .invariants i h) k) in

@@ -1,6 +1,6 @@
 -- Posts joined (SPECIFICATION 16.1, 18), computed from their records.
 use mathlib.Core.Path.{_≡_, refl, ap, subst}
-use mathlib.Core.Bool.{Bool, true, false}
+use mathlib.Core.Bool.{true, false}
 use mathlib.Core.List.{List, [], _∷_}
 use Prim.Native.Nat.{ℕ, _*_}
 use lib.Dec.{T}
@@ -16,40 +16,41 @@ use Rattle.reader_record.specs.declared.Constraint.{Constraint}
 use Rattle.reader_record.specs.declared.Location.{Location}
 use Rattle.reader_record.specs.declared.Label.{Label}
 use Rattle.reader_record.specs.declared.Label.the-variants.{Input, Output}
+use Rattle.reader_record.specs.declared.Assignment.{Assignment}
 use Rattle.reader_record.specs.declared.Edge.{Edge}
 use Rattle.reader_record.specs.declared.Text.{Text}
-use Rattle.reader_record.specs.Record.{no-name, direction-of, channel}
+use Rattle.reader_record.specs.Record.{no-name, no-assignment, written-once, direction-of, assignment, edge, channel}
 use Rattle.reader_constraints.specs.Constraints.{blank-constraint}
 use Rattle.reader_lists.specs.State.{blank-edge}
 use Rattle.refusals.specs.declared.Verdict.the-variants as verdict-of
 use Rattle.reader.specs.declared.Parsed.{Parsed}
 use Rattle.reader.specs.Reading.{read-text}
 use Rattle.reader_formed.specs.Formed.{read-formed}
-use Rattle.reader_examples.specs.Texts.{post, rearm, idle}
-use Rattle.reader_examples.specs.Records.{post-record, rearm-record, idle-record}
+use Rattle.reader_examples.specs.Texts.{post, rearm, overridden, idle}
+use Rattle.reader_examples.specs.Records.{set-to, post-record, rearm-record, overridden-record, idle-record}
 use Rattle.reader_examples.specs.Read.{Reads-to, post-read, rearm-read}
 use Rattle.reader_tokens.specs.Scan.{agree as letters-agree, same}
 use Rattle.reader_record.specs.Formed.{Well-formed}
-use Rattle.clocks.specs.Meaning.{clock-value, compares, met, holds, invariant, reset, after, equal-config, one-if, also, gives, edge-move, edge-moves, ticked, tick-move, moves, start-of}
-use Rattle.clocks.specs.States.{most, constant-for, largest-in, largest, values, ranges, state-count, cap, state, config, leads, state-moves, next, state-invariant, start-state, is-input, input, too-many, or-else, first-fault, fault, step-fault, state-fault, states-judged, judgement}
+use Rattle.clocks.specs.Meaning.{clock-value, compares, met, holds, invariant, assigned, after, equal-config, one-if, also, gives, edge-move, edge-moves, ticked, tick-move, moves, start-of}
+use Rattle.clocks.specs.States.{most, constant-for, largest-in, largest-at, largest, values, ranges, state-count, cap, state, config, leads, state-moves, next, state-invariant, start-state, is-input, input, too-many, or-else, first-fault, fault, step-fault, state-fault, states-judged, judgement}
 use Rattle.clocks.specs.Accepted.{Accepted}
 use Rattle.pairing.specs.declared.Matched.the-variants.{Equal as Equal-texts}
 use Rattle.pairing.specs.Channels.{Well-named, Equal-channels, alike, first-from, lowest, partner, agree, matched, first-unmatched, verdict, unmatched, right-step}
 use Rattle.pairing.specs.Equal.{read-named, equal-when-nothing}
 use Rattle.clocks.specs.declared.Judged.the-variants.{Clean}
-use Rattle.joined.specs.Joined.{pair, shifted, both-constraints, both-resets, matching, joined-location, joined-edge, paired-with, paired, has-channel, joined-channel, joined-text, few, counts-fit}
+use Rattle.joined.specs.Joined.{pair, shifted, both-constraints, both-assignments, matching, joined-location, joined-edge, paired-with, paired, has-channel, joined-channel, joined-text, few, counts-fit}
 use Rattle.joined.specs.Conjunction.{Conjunction-of}
 use Rattle.joined.specs.Results.{texts-conjunction}
 
 -- everything that joining and judging go through, opened
 unfoldable pub opened : Unit {0}
 unfolding letters-agree same alike first-from lowest partner agree matched first-unmatched verdict unmatched
-    right-step all any tab-from blank-constraint blank-edge channel clock-value compares met holds invariant reset
-    after equal-config one-if also gives edge-move edge-moves ticked tick-move moves start-of most constant-for largest-in
-    largest values ranges state-count cap state config leads state-moves next state-invariant start-state is-input
-    input too-many or-else first-fault fault step-fault state-fault states-judged judgement pair shifted
-    both-constraints both-resets matching joined-location joined-edge paired-with paired has-channel joined-channel
-    joined-text few counts-fit
+    right-step all any tab-from blank-constraint blank-edge channel clock-value compares met holds invariant assigned
+    after equal-config one-if also gives edge-move edge-moves ticked tick-move moves start-of most constant-for
+    largest-in largest-at largest values ranges state-count cap state config leads state-moves next state-invariant
+    start-state is-input input too-many or-else first-fault fault step-fault state-fault states-judged judgement pair
+    shifted both-constraints written-once both-assignments matching joined-location joined-edge paired-with paired
+    has-channel joined-channel joined-text few counts-fit
 opened = tt
 
 abbrev is : ℕ → Sign → ℕ → Comparison
@@ -64,16 +65,16 @@ at g = record { name = no-name; invariant = g }
 abbrev free : Constraint
 free = of [] 0
 
-abbrev to : ℕ → ℕ → Label → Bool → Edge
+abbrev to : ℕ → ℕ → Label → Assignment → Edge
 to source target label second = record {
   source = source;
   target = target;
   guard = free;
   label = label;
-  resets = false ∷ second ∷ [];
+  assignments = no-assignment ∷ second ∷ [];
 }
 
--- Post and Rearm joined: two clocks, both invariants, Rearm's reset of its own clock, `late` guarded by both
+-- Post and Rearm joined: two clocks, both invariants, Rearm's assignment of its own clock, `late` guarded by both
 abbrev post-rearm : Text
 post-rearm = record {
   channels = take 3 (post-record .channels);
@@ -89,21 +90,21 @@ post-rearm = record {
   «location_count» = 4;
   init = 0;
   edges =
-      to 0 3 (Input 1) false
-      ∷ to 1 3 (Input 1) false
-      ∷ to 0 0 (Input 2) true
-      ∷ to 1 1 (Input 2) false
+      to 0 3 (Input 1) no-assignment
+      ∷ to 1 3 (Input 1) no-assignment
+      ∷ to 0 0 (Input 2) (set-to 0)
+      ∷ to 1 1 (Input 2) no-assignment
       ∷ record {
         source = 0;
         target = 3;
         guard = of (is 0 AtLeast 3 ∷ is 1 AtLeast 3 ∷ []) 2;
         label = Output 3;
-        resets = false ∷ false ∷ [];
+        assignments = no-assignment ∷ no-assignment ∷ [];
       }
-      ∷ to 2 3 (Input 1) false
-      ∷ to 3 3 (Input 1) false
-      ∷ to 2 2 (Input 2) true
-      ∷ to 3 3 (Input 2) false
+      ∷ to 2 3 (Input 1) no-assignment
+      ∷ to 3 3 (Input 1) no-assignment
+      ∷ to 2 2 (Input 2) (set-to 0)
+      ∷ to 3 3 (Input 2) no-assignment
       ∷ [];
   «edge_count» = 9;
 }
@@ -156,17 +157,17 @@ slow-record = record {
   «location_count» = 2;
   init = 0;
   edges =
-      to 0 1 (Input 1) false
-      ∷ to 0 0 (Input 2) false
+      to 0 1 (Input 1) no-assignment
+      ∷ to 0 0 (Input 2) no-assignment
       ∷ record {
         source = 0;
         target = 1;
         guard = of (is 0 AtLeast 9 ∷ []) 1;
         label = Output 3;
-        resets = false ∷ false ∷ [];
+        assignments = no-assignment ∷ no-assignment ∷ [];
       }
-      ∷ to 1 1 (Input 1) false
-      ∷ to 1 1 (Input 2) false
+      ∷ to 1 1 (Input 1) no-assignment
+      ∷ to 1 1 (Input 2) no-assignment
       ∷ [];
   «edge_count» = 5;
 }
@@ -178,6 +179,24 @@ slow-states = refl
 pub slow-idle-states : state-count (joined-text to-idle slow-record idle-record) ≡ 40
 unfolding opened
 slow-idle-states = refl
+
+-- a value that is overridden is left out too (SPECIFICATION 16.11, 18.5, 18.8): the text with `x = 7, x = 1` has 18
+-- states, but the joined record has the 1 alone, and 100 states
+abbrev to-overridden : ℕ → ℕ
+to-overridden = right-step post post-record overridden overridden-record
+
+pub overridden-states : state-count overridden-record ≡ 18
+unfolding opened
+overridden-states = refl
+
+pub post-overridden-assignment : assignment (edge (joined-text to-overridden post-record overridden-record) 2) 1
+    ≡ set-to 1
+unfolding opened
+post-overridden-assignment = refl
+
+pub post-overridden-states : state-count (joined-text to-overridden post-record overridden-record) ≡ 100
+unfolding opened
+post-overridden-states = refl
 
 -- three clocks are within the limits, four are not
 pub three-clocks : counts-fit (joined-text to-rearm post-rearm rearm-record) ≡ true

@@ -18,13 +18,15 @@ use Rattle.reader_record.specs.declared.Channel.{Channel}
 use Rattle.reader_record.specs.declared.Comparison.{Comparison}
 use Rattle.reader_record.specs.declared.Constraint.{Constraint}
 use Rattle.reader_record.specs.declared.Location.{Location}
+use Rattle.reader_record.specs.declared.Assignment.{Assignment}
 use Rattle.reader_record.specs.declared.Edge.{Edge}
 use Rattle.reader_record.specs.declared.Text.{Text}
 use Rattle.limits.specs.Limits.{clock-limit, location-limit, edge-limit, comparison-limit, largest-constant}
-use Rattle.reader_record.specs.Record.{no-channel, no-comparison, no-location, no-edge, direction-of, comparison, edge, invariant-of, channel}
-use Rattle.reader_record.specs.Formed.{agrees, in-invariant, Formed-constraint, Well-formed}
-use Rattle.joined.specs.Joined.{pair, shifted, both-constraints, both-resets, matching, joined-location, joined-edge, paired-with, paired, edges-of, joined-edges, has-channel, joined-channel, joined-text, few, Counts-fit, counts-fit}
-use Rattle.joined.specs.Lists.{Every, every-append, every-tab, every-at, below, two-left, two-right, two-past}
+use Rattle.reader_record.specs.Record.{no-channel, no-comparison, no-location, no-assignment, no-edge, direction-of, comparison, written-once, assignment, edge, invariant-of, channel}
+use Rattle.reader_record.specs.Formed.{agrees, in-invariant, Formed-constraint, Formed-assignments, Well-formed}
+use Rattle.joined.specs.Joined.{pair, shifted, both-constraints, both-assignments, matching, joined-location, joined-edge, paired-with, paired, edges-of, joined-edges, has-channel, joined-channel, joined-text, few, Counts-fit, counts-fit}
+use Rattle.joined.specs.Lists.{Every, every-append, every-tab, every-at, below, two-left, two-right}
+use Rattle.joined.specs.Assigned.{once-cases, once-again, assignment-missing, assignment-each}
 
 -- the comparisons of a joined constraint: the left's, then the right's by their new clocks
 module _ (n : ℕ) (g h : Constraint) where
@@ -63,6 +65,28 @@ both-formed m n g h a b s = record {
       (λ i l. omega (arith, b .clock i l));
   bound = both-each m g h (λ q. q .bound ≤ largest-constant) (a .bound) (b .bound);
 }
+
+-- the value is written, and an allowed constant
+abbrev Within : Assignment → Type 0
+Within c = (c .value ≤ c .largest) × (c .largest ≤ largest-constant)
+
+once-within : (c : Assignment) → c .value ≤ c .largest → c .largest ≤ largest-constant → Within (written-once c)
+once-within c h k = once-cases Within c (λ e. (omega arith, omega arith)) (λ e. (omega arith, omega arith))
+
+-- the assignments of two edges joined are formed
+pub both-assigned : (m n : ℕ) (a b : Edge) → Formed-assignments m (a .assignments)
+    → Formed-assignments n (b .assignments) → Formed-assignments (m + n) (both-assignments m n a b)
+both-assigned m n a b f g = record {
+  clock = λ k e. ⊎-elim (λ h. h)
+      (λ h. absurd (subst T (sym e ∙ ap (λ (c : Assignment). c .made) (assignment-missing m n a b k h)) tt))
+      (below k (m + n));
+  written = λ k. each k .0;
+  allowed = λ k. each k .1;
+}
+  where
+    each : (k : ℕ) → Within (getD (both-assignments m n a b) k no-assignment)
+    each = assignment-each m n a b Within (λ k. once-within (assignment a k) (f .written k) (f .allowed k))
+        (λ k. once-within (assignment b k) (g .written k) (g .allowed k)) (omega arith, omega arith)
 
 -- the pairs of locations
 pub pair-lt : (m n p q : ℕ) → p < m → q < n → pair n p q < m * n
@@ -110,13 +134,15 @@ module _ (f : ℕ → ℕ) (l r : Text) where
       (tab-at (joined-location l r) no-location 0 (l .«location_count» * r .«location_count») i h
       ∙ ap (joined-location l r) (zero-add i))
 
-  -- a joined edge resets no clock that is missing
-  pub no-more : (i : ℕ) → i < joined-text f l r .«edge_count» → (k : ℕ) → l .«clock_count» + r .«clock_count» ≤ k
-      → getD (edge (joined-text f l r) i .resets) k false ≡ false
-  unfolding joined-edge both-resets
-  no-more i h k m = edges-each (λ e. getD (e .resets) k false ≡ false)
-      (λ a b n o q. two-past false (λ k. getD (edge l a .resets) k false) (λ k. getD (edge r b .resets) k false)
-      (l .«clock_count») (r .«clock_count») k m) i h
+  -- each assignment of a joined edge is written once already
+  pub text-once : (i : ℕ) → i < joined-text f l r .«edge_count» → (k : ℕ)
+      → written-once (assignment (edge (joined-text f l r) i) k) ≡ assignment (edge (joined-text f l r) i) k
+  unfolding joined-edge
+  text-once i h k = edges-each (λ e. written-once (assignment e k) ≡ assignment e k)
+      (λ a b m n q. assignment-each (l .«clock_count») (r .«clock_count») (edge l a) (edge r b)
+      (λ c. written-once c ≡ c)
+      (λ k. once-again (assignment (edge l a) k)) (λ k. once-again (assignment (edge r b) k))
+      (unfold written-once in refl) k) i h
 
   -- the direction of a channel: the left's where a joined edge has it
   pub direction-at : (c : ℕ) → 0 < c → c ≤ l .«channel_count» → direction-of (joined-text f l r) c
@@ -238,10 +264,13 @@ module _ (f : ℕ → ℕ) (l r : Text) (w : Well-formed l) (x : Well-formed r) 
       (T-true (has-channel (joined-edges f l r) c) (label-used f l r i h)) in
       subst (λ (d : Direction). T (agrees (edge (joined-text f l r) i .label) d)) (sym e) (label-agrees i h)
 
-  text-assigned : (i k : ℕ) → i < joined-text f l r .«edge_count»
-      → getD (edge (joined-text f l r) i .resets) k false ≡ true → k < l .«clock_count» + r .«clock_count»
-  text-assigned i k h q = ⊎-elim (λ n. n) (λ n. absurd (subst T (sym q ∙ no-more f l r i h k n) tt))
-      (below k (l .«clock_count» + r .«clock_count»))
+  text-assigned : (i : ℕ) → i < joined-text f l r .«edge_count»
+      → Formed-assignments (l .«clock_count» + r .«clock_count») (edge (joined-text f l r) i .assignments)
+  unfolding joined-edge
+  text-assigned = edges-each f l r
+      (λ e. Formed-assignments (l .«clock_count» + r .«clock_count») (e .assignments))
+      (λ a b m n q. both-assigned (l .«clock_count») (r .«clock_count») (edge l a) (edge r b) (w .assigned a m)
+      (x .assigned b n))
 
   text-used : (c : ℕ) → 0 < c → c ≤ l .«channel_count» → (direction-of (joined-text f l r) c ≡ Unused → ⊥)
       → (i : ℕ) × (i < joined-text f l r .«edge_count») × (channel (edge (joined-text f l r) i .label) ≡ c)

@@ -1,7 +1,7 @@
 -- The joined record of two records (SPECIFICATION 18.1 to 18.5, 18.8). Definitions only. The number f c is the right's
 -- number of the left's step c (SPECIFICATION 9.1). Names are left out but for the channels', which are the left's: a
 -- joined text is written with names of its own (SPECIFICATION 18.6).
-use mathlib.Core.Bool.{Bool, false, _&&_, cond}
+use mathlib.Core.Bool.{Bool, _&&_, cond}
 use mathlib.Core.List.{List, [], _∷_, _++_}
 use Prim.Native.Nat.{ℕ, suc, _+_, _*_, _/_, _%_, _≤_, _<_}
 use lib.Dec.{T, leb, eqb}
@@ -14,9 +14,10 @@ use Rattle.reader_record.specs.declared.Channel.{Channel}
 use Rattle.reader_record.specs.declared.Comparison.{Comparison}
 use Rattle.reader_record.specs.declared.Constraint.{Constraint}
 use Rattle.reader_record.specs.declared.Location.{Location}
+use Rattle.reader_record.specs.declared.Assignment.{Assignment}
 use Rattle.reader_record.specs.declared.Edge.{Edge}
 use Rattle.reader_record.specs.declared.Text.{Text}
-use Rattle.reader_record.specs.Record.{no-name, no-channel, no-edge, comparison, edge, invariant-of, channel}
+use Rattle.reader_record.specs.Record.{no-name, no-channel, no-edge, comparison, written-once, assignment, edge, invariant-of, channel}
 
 -- the number of a pair of locations, where the right has n: in order of left, then right (SPECIFICATION 18.2)
 unfoldable pub pair : ℕ → ℕ → ℕ → ℕ
@@ -33,9 +34,10 @@ both-constraints n g h = record {
   count = g .count + h .count;
 }
 
--- the resets of two edges: those of the left's m clocks, then those of the right's n (SPECIFICATION 18.5)
-unfoldable pub both-resets : ℕ → ℕ → List Bool → List Bool → List Bool
-both-resets m n a b = tab-from (λ k. getD a k false) 0 m ++ tab-from (λ k. getD b k false) 0 n
+-- the assignments of two edges: those of the left's m clocks, then those of the right's n (SPECIFICATION 18.5)
+unfoldable pub both-assignments : ℕ → ℕ → Edge → Edge → List Assignment
+both-assignments m n a b = tab-from (λ k. written-once (assignment a k)) 0 m
+    ++ tab-from (λ k. written-once (assignment b k)) 0 n
 
 -- a left edge and a right edge match: their channels pair up (SPECIFICATION 18.4)
 unfoldable pub matching : (ℕ → ℕ) → Edge → Edge → Bool
@@ -57,7 +59,7 @@ module _ (l r : Text) where
     target = pair (r .«location_count») (a .target) (b .target);
     guard = both-constraints (l .«clock_count») (a .guard) (b .guard);
     label = a .label;
-    resets = both-resets (l .«clock_count») (r .«clock_count») (a .resets) (b .resets);
+    assignments = both-assignments (l .«clock_count») (r .«clock_count») a b;
   }
 
   module _ (f : ℕ → ℕ) where

@@ -3,6 +3,7 @@ pub mod Alike
 pub mod Paired
 pub mod Conjunction
 pub mod Lists
+pub mod Assigned
 pub mod Formed
 pub mod AlikeLaws
 pub mod PairedLaws

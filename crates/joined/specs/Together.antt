@@ -1,5 +1,5 @@
 -- A configuration of the joined record and those of the two texts that it stands for: clocks, invariants, guards,
--- resets and ticks.
+-- assignments and ticks.
 use mathlib.Core.Path.{_≡_, refl, sym, subst, ap, _∙_}
 use mathlib.Core.Bool.{Bool, true, false, _&&_, cond}
 use mathlib.Core.Logic.{⊎-elim}
@@ -7,22 +7,23 @@ use Prim.Native.Nat.{ℕ, _+_, _*_, _-_, _≤_, _<_}
 use native.Mathlib.Omega.{arith}
 use lib.Dec.{T, eqb}
 use lib.Arith.{digits-div, digits-mod}
-use lib.ListN.{getD}
-use borrow.Author.Tests.{eqb-true, eqb-false}
 use Rattle.systems.specs.Tests.{all}
 use Rattle.systems.specs.Bools.{T-same, and-T, and-both, all-elim, all-intro}
 use Rattle.limits.specs.Limits.{clock-limit}
 use Rattle.reader_record.specs.declared.Comparison.{Comparison}
 use Rattle.reader_record.specs.declared.Constraint.{Constraint}
+use Rattle.reader_record.specs.declared.Assignment.{Assignment}
 use Rattle.reader_record.specs.declared.Edge.{Edge}
 use Rattle.reader_record.specs.declared.Text.{Text}
-use Rattle.reader_record.specs.Record.{comparison, invariant-of}
+use Rattle.reader_record.specs.Record.{comparison, assignment, invariant-of}
 use Rattle.reader_record.specs.Formed.{Formed-constraint, Well-formed}
 use Rattle.clocks.specs.declared.Config.{Config}
-use Rattle.clocks.specs.Meaning.{clock-value, compares, met, holds, invariant, reset, after, ticked, start-of}
-use Rattle.joined.specs.Joined.{pair, shifted, both-constraints, both-resets, joined-edge, joined-text}
+use Rattle.clocks.specs.Meaning.{clock-value, compares, met, holds, invariant, assigned, after, ticked, start-of}
+use Rattle.joined.specs.Joined.{pair, shifted, both-constraints, joined-edge, joined-text}
+use Rattle.clocks.specs.Assigned.{value-after}
 use Rattle.clocks.specs.Also.{equal-parts}
-use Rattle.joined.specs.Lists.{below, two-left, two-right, two-past}
+use Rattle.joined.specs.Lists.{below}
+use Rattle.joined.specs.Assigned.{once-assigned, assignment-left, assignment-right, assignment-missing}
 use Rattle.joined.specs.Formed.{both-count, both-left, both-right, both-each, pair-lt, invariant-at}
 
 -- the location is the pair, and the clocks are the left's, then the right's (SPECIFICATION 18.2, 18.3); nothing is said
@@ -60,7 +61,7 @@ together-only l r x u y v w s t = equal-values u y (s .together .location ∙ sy
         (below k (l .«clock_count» + r .«clock_count»)))
         (below k (l .«clock_count»))
 
--- a clock after a tick and after an edge
+-- a clock after a tick
 pub value-ticked : (v : Config) (k : ℕ) → clock-value (ticked v) k ≡ clock-value v k + 1
 unfolding clock-value ticked
 value-ticked v k = go (eqb k 0) (eqb k 1)
@@ -70,22 +71,6 @@ value-ticked v k = go (eqb k 0) (eqb k 1)
     go false true = refl
     go false false = refl
 
-pub value-after : (e : Edge) (v : Config) (k : ℕ) → k < clock-limit
-    → clock-value (after e v) k ≡ reset e k (clock-value v k)
-unfolding clock-value after
-value-after e v k h = go (eqb k 0) refl (eqb k 1) refl
-  where
-    go : (a : Bool) → eqb k 0 ≡ a → (b : Bool) → eqb k 1 ≡ b
-        → cond a (reset e 0 (v .x)) (cond b (reset e 1 (v .y)) (reset e 2 (v .z)))
-        ≡ reset e k (cond a (v .x) (cond b (v .y) (v .z)))
-    go true p b q = ap (λ (i : ℕ). reset e i (v .x)) (sym (eqb-true k 0 p))
-    go false p true q = ap (λ (i : ℕ). reset e i (v .y)) (sym (eqb-true k 1 q))
-    go false p false q =
-        let n0 : k ≡ 0 → ⊥ = eqb-false k 0 p in
-        let n1 : k ≡ 1 → ⊥ = eqb-false k 1 q in
-        let e2 : 2 ≡ k = omega arith in
-        ap (λ (i : ℕ). reset e i (v .z)) e2
-
 pub after-location : (e : Edge) (v : Config) → after e v .location ≡ e .target
 unfolding after
 after-location e v = refl
@@ -94,26 +79,27 @@ pub ticked-location : (v : Config) → ticked v .location ≡ v .location
 unfolding ticked
 ticked-location v = refl
 
--- the resets of a joined edge are the left's, then the right's
+-- a clock at v after an assignment
+abbrev after-one : ℕ → Assignment → ℕ
+after-one v q = cond (q .made) (q .value) v
+
+-- a clock after a joined edge: as after the left's edge, or after the right's
 module _ (l r : Text) (a b : Edge) where
-  pub reset-left : (k v : ℕ) → k < l .«clock_count» → reset (joined-edge l r a b) k v ≡ reset a k v
-  unfolding reset joined-edge both-resets
-  reset-left k v h = ap (λ (t : Bool). cond t 0 v)
-      (two-left false (λ k. getD (a .resets) k false) (λ k. getD (b .resets) k false) (l .«clock_count»)
-      (r .«clock_count») k h)
+  pub assigned-left : (k v : ℕ) → k < l .«clock_count» → assigned (joined-edge l r a b) k v ≡ assigned a k v
+  unfolding assigned joined-edge
+  assigned-left k v h = ap (after-one v) (assignment-left (l .«clock_count») (r .«clock_count») a b k h)
+      ∙ once-assigned (assignment a k) v
 
-  pub reset-right : (k v : ℕ) → k < r .«clock_count»
-      → reset (joined-edge l r a b) (l .«clock_count» + k) v ≡ reset b k v
-  unfolding reset joined-edge both-resets
-  reset-right k v h = ap (λ (t : Bool). cond t 0 v)
-      (two-right false (λ k. getD (a .resets) k false) (λ k. getD (b .resets) k false) (l .«clock_count»)
-      (r .«clock_count») k h)
+  pub assigned-right : (k v : ℕ) → k < r .«clock_count»
+      → assigned (joined-edge l r a b) (l .«clock_count» + k) v ≡ assigned b k v
+  unfolding assigned joined-edge
+  assigned-right k v h = ap (after-one v) (assignment-right (l .«clock_count») (r .«clock_count») a b k h)
+      ∙ once-assigned (assignment b k) v
 
-  pub reset-missing : (k v : ℕ) → l .«clock_count» + r .«clock_count» ≤ k → reset (joined-edge l r a b) k v ≡ v
-  unfolding reset joined-edge both-resets
-  reset-missing k v h = ap (λ (t : Bool). cond t 0 v)
-      (two-past false (λ k. getD (a .resets) k false) (λ k. getD (b .resets) k false) (l .«clock_count»)
-      (r .«clock_count») k h)
+  pub assigned-missing : (k v : ℕ) → l .«clock_count» + r .«clock_count» ≤ k
+      → assigned (joined-edge l r a b) k v ≡ v
+  unfolding assigned joined-edge
+  assigned-missing k v h = ap (after-one v) (assignment-missing (l .«clock_count») (r .«clock_count») a b k h)
 
 module _ (l r : Text) {u v w : Config} (t : Together l r u v w) where
   pub ticked-together : Together l r (ticked u) (ticked v) (ticked w)
@@ -131,10 +117,10 @@ module _ (l r : Text) {u v w : Config} (t : Together l r u v w) where
     location = after-location (joined-edge l r a b) u ∙ target-pair
         ∙ sym (rw (after-location a v, after-location b w) refl);
     left = λ k h. value-after (joined-edge l r a b) u k (omega arith)
-        ∙ reset-left l r a b k (clock-value u k) h ∙ ap (reset a k) (t .left k h)
+        ∙ assigned-left l r a b k (clock-value u k) h ∙ ap (assigned a k) (t .left k h)
         ∙ sym (value-after a v k (omega arith));
     right = λ k h. value-after (joined-edge l r a b) u (l .«clock_count» + k) (omega arith)
-        ∙ reset-right l r a b k (clock-value u (l .«clock_count» + k)) h ∙ ap (reset b k) (t .right k h)
+        ∙ assigned-right l r a b k (clock-value u (l .«clock_count» + k)) h ∙ ap (assigned b k) (t .right k h)
         ∙ sym (value-after b w k (omega arith));
   }
     where
@@ -146,7 +132,7 @@ module _ (l r : Text) {u v w : Config} (t : Together l r u v w) where
       → Together-from l r u (after (joined-edge l r a b) u) (after a v) (after b w)
   after-together-from few a b = record {
     together = after-together few a b;
-    missing = λ k m h. value-after (joined-edge l r a b) u k h ∙ reset-missing l r a b k (clock-value u k) m;
+    missing = λ k m h. value-after (joined-edge l r a b) u k h ∙ assigned-missing l r a b k (clock-value u k) m;
   }
 
   -- a comparison of the left's, and one of the right's

@@ -1,22 +1,24 @@
--- What is read from the text of a well-formed record says what the record says.
+-- What is read from the text of a well-formed record says what the record says, where that has each assignment written
+-- once.
 use mathlib.Core.Path.{_≡_, refl, sym, subst, ap, _∙_}
 use mathlib.Core.Logic.{⊎-elim}
-use mathlib.Core.Bool.{Bool, true, false, _&&_}
+use mathlib.Core.Bool.{true, _&&_}
 use mathlib.Core.List.{List}
 use Prim.Native.Nat.{ℕ, suc, _-_, _≤_, _<_}
 use native.Mathlib.Omega.{arith}
 use lib.Dec.{T, ltb, leb}
-use lib.ListN.{getD}
 use Rattle.systems.specs.Bools.{T-same}
 use Rattle.reader_record.specs.declared.Constraint.{Constraint}
 use Rattle.reader_record.specs.declared.Direction.{Direction}
+use Rattle.reader_record.specs.declared.Assignment.{Assignment}
 use Rattle.reader_record.specs.declared.Text.{Text}
-use Rattle.reader_record.specs.Record.{direction-of, edge}
+use Rattle.reader_record.specs.Record.{no-assignment, written-once, assignment, direction-of, edge}
 use Rattle.reader_record.specs.Formed.{Well-formed}
 use Rattle.clocks.specs.States.{is-input, input}
 use Rattle.clocks.specs.Judgement.{input-known}
 use Rattle.joined.specs.Alike.{Alike-constraint, Alike-edge, Alike}
 use Rattle.joined.specs.Lists.{below}
+use Rattle.joined.specs.Assigned.{once-cases}
 use Rattle.joined.specs.Inputs.{input-parts, input-is}
 use Rattle.written.specs.Same.{Same-constraint, Same-text}
 use Rattle.joined_written.specs.Directions.{direction-read}
@@ -24,13 +26,18 @@ use Rattle.joined_written.specs.Directions.{direction-read}
 alike-constraint : {g h : Constraint} → Same-constraint g h → Alike-constraint g h
 alike-constraint s = record { count = s .count; each = s .each }
 
--- an edge that assigns declared clocks alone has no reset past them
-not-assigned : (b : Bool) (k n : ℕ) → (b ≡ true → k < n) → n ≤ k → b ≡ false
-not-assigned true k n h l = let m = h refl in absurd (omega arith)
-not-assigned false k n h l = refl
+-- an edge that assigns declared clocks alone writes nothing past them
+not-written : (a : Assignment) (k n : ℕ) → (a .made ≡ true → k < n) → n ≤ k → written-once a ≡ no-assignment
+not-written a k n h l = once-cases (λ q. q ≡ no-assignment) a
+    (λ e. let m = h e in absurd (omega arith)) (λ e. refl)
+
+-- each assignment has its value as the largest one (SPECIFICATION 5.4): nothing is lost where it is written once
+abbrev pub Written-once : Text → Type 0
+Written-once t = (i : ℕ) → i < t .«edge_count» → (k : ℕ)
+    → written-once (assignment (edge t i) k) ≡ assignment (edge t i) k
 
 module _ (t x : Text) (s : List ℕ) (words : List (List ℕ)) (u : ℕ) (w : Well-formed t)
-    (same : Same-text s words u t x) where
+    (once : Written-once t) (same : Same-text s words u t x) where
   direction-same : (c : ℕ) → 0 < c → c ≤ t .«channel_count» → direction-of x c ≡ direction-of t c
   direction-same c p q =
       let e : suc (c - 1) ≡ c = omega arith in
@@ -58,10 +65,10 @@ module _ (t x : Text) (s : List ℕ) (words : List (List ℕ)) (u : ℕ) (w : We
         target = e .target;
         guard = alike-constraint (e .guard);
         label = e .label;
-        resets = λ k. ⊎-elim (λ n. e .resets k n)
-            (λ n. e .no-more k n ∙ sym (not-assigned (getD (edge t i .resets) k false) k (t .«clock_count»)
-            (w .assigned i k h) n))
-            (below k (t .«clock_count»));
+        assignments = λ k. ⊎-elim (λ n. e .assignments k n)
+            (λ n. e .no-more k n ∙ sym (not-written (assignment (edge t i) k) k (t .«clock_count»)
+            (w .assigned i h .clock k) n))
+            (below k (t .«clock_count»)) ∙ once i h k;
       }
 
   pub read-back-alike : Alike t x

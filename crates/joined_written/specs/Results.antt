@@ -20,7 +20,7 @@ use Rattle.pairing.specs.Equal.{read-named}
 use Rattle.joined.specs.Joined.{joined-text, counts-fit}
 use Rattle.joined.specs.Paired.{Paired-steps}
 use Rattle.joined.specs.Alike.{Alike}
-use Rattle.joined.specs.Formed.{text-formed}
+use Rattle.joined.specs.Formed.{text-once, text-formed}
 use Rattle.joined.specs.AlikeLaws.{alike-accepted}
 use Rattle.joined.specs.PairedLaws.{right-steps}
 use Rattle.joined.specs.Judged.{input-same}
@@ -114,7 +114,7 @@ module _ (period : ℕ) (s u : List ℕ) (left-read : read-text period s .answer
 
     alike : Alike (joined-text step L R) x
     alike = read-back-alike (joined-text step L R) x z words (underscores-of words (joined-text step L R)) formed
-        (back .same)
+        (text-once step L R) (back .same)
 
     channels-kept : x .«channel_count» ≡ L .«channel_count»
     unfolding joined-text

@@ -1,20 +1,20 @@
 -- Records that say the same are written as the same text: so the code may build the joined record in arrays, with
 -- whatever filling, and write that.
 use mathlib.Core.Path.{_≡_, refl, ap}
-use mathlib.Core.Bool.{Bool, false}
-use mathlib.Core.List.{List, [], _∷_}
+use mathlib.Core.List.{List, [], _∷_, map}
 use Prim.Native.Nat.{ℕ, zero, suc, _+_, _<_}
 use native.Mathlib.Nat.{zero-add}
 use native.Mathlib.Omega.{arith}
 use lib.ListN.{getD}
 use Rattle.reader_tokens.specs.Scan.{bytes}
 use Rattle.reader_record.specs.declared.Constraint.{Constraint}
+use Rattle.reader_record.specs.declared.Assignment.{Assignment}
 use Rattle.reader_record.specs.declared.Edge.{Edge}
 use Rattle.reader_record.specs.declared.Text.{Text}
-use Rattle.reader_record.specs.Record.{comparison, edge, invariant-of}
+use Rattle.reader_record.specs.Record.{no-assignment, comparison, edge, invariant-of}
 use Rattle.joined.specs.Alike.{Alike-constraint, Alike-edge, Alike}
 use Rattle.written.specs.Spaced.{Tokens, part-tokens, numbered-items}
-use Rattle.written.specs.Written.{location-called, comparison-tokens, constraint-tokens, location-tokens, reset-clocks, resets-tokens, edge-tokens, list-tokens, location-list, edge-list, text-tokens, written-with}
+use Rattle.written.specs.Written.{location-called, comparison-tokens, constraint-tokens, location-tokens, assigned-clocks, assignment-tokens, assignments-tokens, edge-tokens, list-tokens, location-list, edge-list, text-tokens, written-with}
 use Rattle.written.specs.Underscores.{underscores-of, written-text}
 
 items-same : (f g : ℕ → Tokens) (i n : ℕ) → ((k : ℕ) → k < n → f (i + k) ≡ g (i + k))
@@ -35,19 +35,29 @@ constraint-same opening closing u g h s = ap (part-tokens (opening ∷ []) _ clo
     (rw (s .count) (items-same (λ i. comparison-tokens u (comparison h i)) (λ i. comparison-tokens u (comparison g i)) 0
     (g .count) (λ k l. rw (zero-add k) (ap (comparison-tokens u) (s .each k l)))))
 
-resets-same : (a b : List Bool) → ((k : ℕ) → getD b k false ≡ getD a k false) → (i n : ℕ)
-    → reset-clocks b i n ≡ reset-clocks a i n
-unfolding reset-clocks
-resets-same a b h i zero = refl
-resets-same a b h i (suc n) = rw (h i, resets-same a b h (suc i) n)
+-- equal assignments: the same clocks, each with the same value
+module _ (a b : List Assignment) (h : (k : ℕ) → getD b k no-assignment ≡ getD a k no-assignment) where
+  clocks-same : (i n : ℕ) → assigned-clocks b i n ≡ assigned-clocks a i n
+  unfolding assigned-clocks
+  clocks-same i zero = refl
+  clocks-same i (suc n) = rw (h i, clocks-same (suc i) n)
+
+  values-same : (u : ℕ) (clocks : List ℕ) → map (assignment-tokens u b) clocks ≡ map (assignment-tokens u a) clocks
+  unfolding assignment-tokens
+  values-same u [] = refl
+  values-same u (k ∷ clocks) = rw (h k, values-same u clocks)
+
+  assignments-same : (u clocks : ℕ) → assignments-tokens u clocks b ≡ assignments-tokens u clocks a
+  unfolding assignments-tokens
+  assignments-same u clocks = rw (clocks-same 0 clocks, values-same u (assigned-clocks a 0 clocks))
 
 edge-same : (names : List (List ℕ)) (u clocks : ℕ) (e d : Edge) → Alike-edge e d
     → edge-tokens names u clocks d ≡ edge-tokens names u clocks e
-unfolding edge-tokens resets-tokens
+unfolding edge-tokens
 edge-same names u clocks e d s =
     rw (
       constraint-same (bytes "guard") (bytes ";") u (e .guard) (d .guard) (s .guard),
-      resets-same (e .resets) (d .resets) (s .resets) 0 clocks,
+      assignments-same (e .assignments) (d .assignments) (s .assignments) u clocks,
       s .source,
       s .target,
       s .label,

@@ -5,21 +5,31 @@ use mathlib.Core.List.{List}
 use Prim.Native.Nat.{ℕ, _<_}
 use native.Mathlib.Omega.{arith}
 use Rattle.reader_record.specs.declared.Constraint.{Constraint}
+use Rattle.reader_record.specs.declared.Assignment.{Assignment}
+use Rattle.reader_record.specs.declared.Edge.{Edge}
 use Rattle.reader_record.specs.declared.Text.{Text}
-use Rattle.reader_record.specs.Formed.{Formed-constraint, Well-formed}
+use Rattle.reader_record.specs.Formed.{Formed-constraint, Formed-assignments, Well-formed}
 use Rattle.reader_formed.specs.Promise.{channel-name, Names-within}
 use Rattle.clocks_states.specs.Parts.{Countable}
 use Rattle.written_names.specs.Spelled.{channel-spellings}
 use Rattle.written_names.specs.Inside.{names-in}
 use Rattle.written_names.specs.InsideLaws.{spellings-of, names-same, names-inside}
 use Rattle.writer_lists.specs.Lists.{Text-within}
-use Rattle.joined.specs.Alike.{Alike-constraint, Alike}
+use Rattle.joined.specs.Alike.{Alike-constraint, Alike-edge, Alike}
 
 alike-formed : (n : ℕ) (g h : Constraint) → Alike-constraint g h → Formed-constraint n g → Formed-constraint n h
 alike-formed n g h a w = record {
   few = rw (a .count) (w .few);
   clock = λ i l. let k : i < g .count = omega (arith, a .count, l) in rw (a .each i k) (w .clock i k);
   bound = λ i l. let k : i < g .count = omega (arith, a .count, l) in rw (a .each i k) (w .bound i k);
+}
+
+alike-assigned : (n : ℕ) (e d : Edge) → Alike-edge e d → Formed-assignments n (e .assignments)
+    → Formed-assignments n (d .assignments)
+alike-assigned n e d a w = record {
+  clock = λ k m. w .clock k (ap (λ (c : Assignment). c .made) (sym (a .assignments k)) ∙ m);
+  written = λ k. rw (a .assignments k) (w .written k);
+  allowed = λ k. rw (a .assignments k) (w .allowed k);
 }
 
 pub alike-countable : (t x : Text) → Alike t x → Well-formed t → Countable x
@@ -32,6 +42,9 @@ alike-countable t x a w = record {
   guard = λ i h.
       let k : i < t .«edge_count» = omega (arith, a .edge-count, h) in
       rw (a .clock-count) (alike-formed (t .«clock_count») _ _ (a .edges i k .guard) (w .guard i k));
+  assigned = λ i h.
+      let k : i < t .«edge_count» = omega (arith, a .edge-count, h) in
+      rw (a .clock-count) (alike-assigned (t .«clock_count») _ _ (a .edges i k) (w .assigned i k));
 }
 
 -- channels with the same names are spelled alike

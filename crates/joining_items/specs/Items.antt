@@ -1,13 +1,11 @@
 -- What the items of the joined record hold, as the code builds them in arrays of a fixed length. Definitions only.
 use mathlib.Core.Path.{_≡_}
-use mathlib.Core.Bool.{false}
 use Prim.Native.Nat.{ℕ, _+_, _≤_, _<_}
-use lib.ListN.{getD}
 use Rattle.limits.specs.Limits.{clock-limit, comparison-limit, location-limit}
 use Rattle.reader_record.specs.declared.Constraint.{Constraint}
 use Rattle.reader_record.specs.declared.Edge.{Edge}
-use Rattle.reader_record.specs.Record.{comparison}
-use Rattle.joined.specs.Joined.{pair, both-constraints, both-resets}
+use Rattle.reader_record.specs.Record.{comparison, assignment}
+use Rattle.joined.specs.Joined.{pair, both-constraints, both-assignments}
 
 -- r says what g says as far as there is room: its count is right even where it passes the limit (SPECIFICATION 18.8)
 pub record Nearly (g r : Constraint) : Type 0 where
@@ -20,7 +18,7 @@ pub record Near-edge (e d : Edge) : Type 0 where
   pub target : d .target ≡ e .target
   pub guard : Nearly (e .guard) (d .guard)
   pub label : d .label ≡ e .label
-  pub resets : (k : ℕ) → getD (d .resets) k false ≡ getD (e .resets) k false
+  pub assignments : (k : ℕ) → assignment d k ≡ assignment e k
 
 -- two constraints that can be joined, where the left text has n clocks
 pub record Joinable (n : ℕ) (g h : Constraint) : Type 0 where
@@ -37,7 +35,7 @@ joined-by m n w a b = record {
   target = pair w (a .target) (b .target);
   guard = both-constraints m (a .guard) (b .guard);
   label = a .label;
-  resets = both-resets m n (a .resets) (b .resets);
+  assignments = both-assignments m n a b;
 }
 
 -- two edges that can be joined

@@ -1,7 +1,6 @@
 -- Laws of the items.
 use mathlib.Core.Path.{_≡_, sym, ap, subst, _∙_}
 use mathlib.Core.Logic.{⊎-elim}
-use mathlib.Core.Bool.{Bool, false}
 use mathlib.Core.List.{List, [], _∷_}
 use Prim.Native.Nat.{ℕ, zero, suc, _+_, _-_, _≤_, _<_}
 use native.Mathlib.Decide.{ℕ-discrete}
@@ -9,10 +8,13 @@ use native.Mathlib.Omega.{arith}
 use lib.ListN.{length, getD, set}
 use lib.Seq.{getD-set-same, getD-set-other}
 use Rattle.reader_record.specs.declared.Constraint.{Constraint}
+use Rattle.reader_record.specs.declared.Assignment.{Assignment}
+use Rattle.reader_record.specs.declared.Edge.{Edge}
 use Rattle.limits.specs.Limits.{clock-limit, comparison-limit}
-use Rattle.reader_record.specs.Record.{comparison}
-use Rattle.joined.specs.Joined.{shifted, both-constraints, both-resets}
-use Rattle.joined.specs.Lists.{below, two-left, two-right, two-past}
+use Rattle.reader_record.specs.Record.{no-assignment, comparison}
+use Rattle.joined.specs.Joined.{shifted, both-constraints, both-assignments}
+use Rattle.joined.specs.Lists.{below}
+use Rattle.joined.specs.Assigned.{assignment-missing}
 use Rattle.joined.specs.Formed.{both-right}
 use Rattle.joined.specs.Alike.{Alike-constraint}
 use Rattle.joining_items.specs.Items.{Nearly}
@@ -40,28 +42,15 @@ kept-more d P xs i q l e h j k = elim (ℕ-discrete j i) [
   | no z ↦ subst (P j) (sym (getD-set-other xs i j q d z)) (h j (below-last j i k z))
 ]
 
--- the resets of two edges as one
-module _ (m n : ℕ) (a b : List Bool) where
-  pub reset-of-left : (k : ℕ) → k < m → getD (both-resets m n a b) k false ≡ getD a k false
-  unfolding both-resets
-  reset-of-left k h = two-left false (λ k. getD a k false) (λ k. getD b k false) m n k h
+-- three assignments that are right are all
+module _ (m n : ℕ) (a b : Edge) where
+  abbrev both-at : ℕ → Assignment
+  both-at k = getD (both-assignments m n a b) k no-assignment
 
-  pub reset-of-right : (k : ℕ) → m ≤ k → k < m + n → getD (both-resets m n a b) k false ≡ getD b (k - m) false
-  unfolding both-resets
-  reset-of-right k h l =
-      let e : k ≡ m + (k - m) = omega arith in
-      ap (λ (i : ℕ). getD (both-resets m n a b) i false) e
-      ∙ two-right false (λ k. getD a k false) (λ k. getD b k false) m n (k - m) (omega arith)
-
-  pub reset-of-none : (k : ℕ) → m + n ≤ k → getD (both-resets m n a b) k false ≡ false
-  unfolding both-resets
-  reset-of-none k h = two-past false (λ k. getD a k false) (λ k. getD b k false) m n k h
-
-  -- three resets that are right are all
-  pub three-resets : (x y z : Bool) → m + n ≤ clock-limit → x ≡ getD (both-resets m n a b) 0 false
-      → y ≡ getD (both-resets m n a b) 1 false → z ≡ getD (both-resets m n a b) 2 false
-      → (k : ℕ) → getD (x ∷ y ∷ z ∷ []) k false ≡ getD (both-resets m n a b) k false
-  three-resets x y z l p q r zero = p
-  three-resets x y z l p q r (suc zero) = q
-  three-resets x y z l p q r (suc (suc zero)) = r
-  three-resets x y z l p q r (suc (suc (suc k))) = sym (reset-of-none (suc (suc (suc k))) (omega arith))
+  pub three-assignments : (x y z : Assignment) → m + n ≤ clock-limit → x ≡ both-at 0 → y ≡ both-at 1 → z ≡ both-at 2
+      → (k : ℕ) → getD (x ∷ y ∷ z ∷ []) k no-assignment ≡ both-at k
+  three-assignments x y z l p q r zero = p
+  three-assignments x y z l p q r (suc zero) = q
+  three-assignments x y z l p q r (suc (suc zero)) = r
+  three-assignments x y z l p q r (suc (suc (suc k))) =
+      sym (assignment-missing m n a b (suc (suc (suc k))) (omega arith))

@@ -1,18 +1,18 @@
-// Joins the items of two records: comparisons, guards and invariants, resets, edges (SPECIFICATION 18.2 to 18.5).
+// Joins the items of two records: comparisons, guards and invariants, assignments, edges (SPECIFICATION 18.2 to 18.5).
 use limits::CLOCK_LIMIT;
 use limits::COMPARISON_LIMIT;
+use reader_record::Assignment;
 use reader_record::Comparison;
 use reader_record::Constraint;
 use reader_record::Edge;
 use reader_record::Label;
 use reader_record::Sign;
 ghost use mathlib.Core.Path.{_≡_};
-ghost use mathlib.Core.Bool.{false};
 ghost use Prim.Native.Nat.{ℕ, _+_, _≤_, _<_};
 ghost use lib.ListN.{getD};
 ghost use Rattle.limits.specs.Limits.{clock-limit, comparison-limit, location-limit};
-ghost use Rattle.reader_record.specs.Record.{comparison, channel};
-ghost use Rattle.joined.specs.Joined.{pair, shifted, both-constraints, both-resets};
+ghost use Rattle.reader_record.specs.Record.{no-assignment, comparison, written-once, channel};
+ghost use Rattle.joined.specs.Joined.{pair, shifted, both-constraints, both-assignments};
 ghost use Rattle.joining_items.specs.Items.{Nearly, Near-edge, Joinable, Edges-joinable, joined-by};
 
 // The channel of a label, from 1.
@@ -87,33 +87,45 @@ pub fn join_constraint(n: u8, g: Constraint, h: Constraint) -> Constraint
     }
 }
 
-// Whether clock k is reset by two edges as one, of texts with m and n clocks (SPECIFICATION 18.5).
-fn reset_at(a: [bool; CLOCK_LIMIT], m: usize, b: [bool; CLOCK_LIMIT], n: usize, k: usize) -> bool
-    requires { ⌜ (m + n ≤ clock-limit) × (k < clock-limit) ⌝ }
-    ensures { λ r. ⌜ r ≡ getD (both-resets m n a b) k false ⌝ }
+// An assignment as a joined text has it: written once, with the value assigned, which is then the largest one too. A
+// value that is overridden is left out (SPECIFICATION 18.5).
+fn written_once(a: Assignment) -> Assignment
+    ensures { λ r. ⌜ r ≡ written-once a ⌝ }
 {
-    if k < m {
-        return a[k];
+    if !a.made {
+        return reader_record::no_assignment();
     }
-    if k - m < n {
-        return b[k - m];
+    Assignment {
+        made: true,
+        value: a.value,
+        largest: a.value,
     }
-    false
 }
 
-// The clocks that two edges as one reset, the left's first.
-fn join_resets(
-    a: [bool; CLOCK_LIMIT],
-    m: usize,
-    b: [bool; CLOCK_LIMIT],
-    n: usize,
-) -> [bool; CLOCK_LIMIT]
-    requires { ⌜ m + n ≤ clock-limit ⌝ }
-    ensures { λ r. ⌜ ((k : ℕ) → getD r k false ≡ getD (both-resets m n a b) k false) ⌝ }
+// What two edges as one do to clock k, of texts with m and n clocks (SPECIFICATION 18.5).
+fn assignment_at(m: usize, n: usize, a: Edge, b: Edge, k: usize) -> Assignment
+    requires { ⌜ (m + n ≤ clock-limit) × (k < clock-limit) ⌝ }
+    ensures { λ r. ⌜ r ≡ getD (both-assignments m n a b) k no-assignment ⌝ }
 {
-    let x = reset_at(a, m, b, n, 0);
-    let y = reset_at(a, m, b, n, 1);
-    let z = reset_at(a, m, b, n, 2);
+    if k < m {
+        let left = a.assignments[k];
+        return written_once(left);
+    }
+    if k - m < n {
+        let right = b.assignments[k - m];
+        return written_once(right);
+    }
+    reader_record::no_assignment()
+}
+
+// The assignments of two edges as one, the left's first.
+fn join_assignments(m: usize, n: usize, a: Edge, b: Edge) -> [Assignment; CLOCK_LIMIT]
+    requires { ⌜ m + n ≤ clock-limit ⌝ }
+    ensures { λ r. ⌜ ((k : ℕ) → getD r k no-assignment ≡ getD (both-assignments m n a b) k no-assignment) ⌝ }
+{
+    let x = assignment_at(m, n, a, b, 0);
+    let y = assignment_at(m, n, a, b, 1);
+    let z = assignment_at(m, n, a, b, 2);
     [x, y, z]
 }
 
@@ -137,14 +149,12 @@ pub fn join_edge(m: u8, n: usize, w: usize, a: Edge, b: Edge) -> Edge
     let h = b.guard;
     let guard = join_constraint(m, g, h);
     let label = a.label;
-    let p = a.resets;
-    let q = b.resets;
-    let resets = join_resets(p, m as usize, q, n);
+    let assignments = join_assignments(m as usize, n, a, b);
     Edge {
         source,
         target,
         guard,
         label,
-        resets,
+        assignments,
     }
 }

@@ -157,7 +157,7 @@ near-alike e d n h = record {
   target = n .target;
   guard = nearly-alike (e .guard) (d .guard) (n .guard) h;
   label = n .label;
-  resets = n .resets;
+  assignments = n .assignments;
 }
 
 true-not : {b : Bool} → b ≡ true → b ≡ false → ⊥

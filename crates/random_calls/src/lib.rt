@@ -1,6 +1,8 @@
 // Calls of six operations, all but join, at a tick length, `period`, with long, exact and short slices, what the
 // enumerator says of each, and a tally of answers and differences: the answer counts, and every byte and entry that is
 // lent. Proved safe and ending, no more.
+use enumerator::late::has_late;
+use enumerator::late::has_overridden;
 use enumerator::moves::ACCEPTED;
 use enumerator::moves::ROW;
 use enumerator::moves::accepted;
@@ -73,7 +75,16 @@ pub const PARALLEL_PAIRS: usize = 36;
 
 pub const PARALLEL_JOINED: usize = 37;
 
-pub const TALLY: usize = 38;
+// The same with late clocks (SPECIFICATION 6.3), and accepted texts in which a larger value is overridden.
+pub const LATE: usize = 38;
+
+pub const LATE_PAIRS: usize = 39;
+
+pub const LATE_JOINED: usize = 40;
+
+pub const OVERRIDDEN: usize = 41;
+
+pub const TALLY: usize = 42;
 
 // The tick length at which a text is written in ticks.
 const IN_TICKS: usize = 1;
@@ -688,16 +699,23 @@ fn follow_case(a: Reading, b: Reading, c: Case, l: &[u32], r: &[u32], tally: &mu
     add(tally, DIFFERENCES, !is_right);
 }
 
-// Counts two texts with a safe left start that both have parallel edges.
-fn count_parallel(a: Reading, b: Reading, c: Case, l: &[u32], tally: &mut [usize]) {
+fn both_parallel(a: Reading, b: Reading) -> bool {
+    has_parallel(a) && has_parallel(b)
+}
+
+fn both_late(a: Reading, b: Reading) -> bool {
+    has_late(a) && has_late(b)
+}
+
+// Counts two texts with a safe left start that both have parallel edges, or late clocks.
+fn count_pairs(a: Reading, b: Reading, c: Case, l: &[u32], tally: &mut [usize]) {
     let w = c.two;
     let f = c.refusal;
     if f.code != ACCEPTED || !is_safe(l, w.left_start) {
         return;
     }
-    if has_parallel(a) {
-        add(tally, PARALLEL_PAIRS, has_parallel(b));
-    }
+    add(&mut *tally, PARALLEL_PAIRS, both_parallel(a, b));
+    add(tally, LATE_PAIRS, both_late(a, b));
 }
 
 // The operations on two texts, of which the left has the rows l.
@@ -718,7 +736,7 @@ fn two_cases(
     let c = Case { seed, refusal, two };
     search_case(period, left, right, c, l, &r, &mut *tally);
     follow_case(a, b, c, l, &r, &mut *tally);
-    count_parallel(a, b, c, l, &mut *tally);
+    count_pairs(a, b, c, l, &mut *tally);
     table_cases(period, left, right, c, l, &r, tally);
 }
 
@@ -827,7 +845,9 @@ pub fn read_case(
         expected,
         is_right && constants && same(expected, got),
     );
-    add(tally, PARALLEL, has_parallel(r));
+    add(&mut *tally, PARALLEL, has_parallel(r));
+    add(&mut *tally, LATE, has_late(r));
+    add(tally, OVERRIDDEN, has_overridden(r));
 }
 
 // A text in milliseconds and the same text in ticks, of both of which no refusal is known, have the same constants. What

@@ -13,6 +13,7 @@ use enumerator::safe::Reading;
 use enumerator_joins::bytes::is_joined;
 use enumerator_joins::counts::Channels;
 use enumerator_joins::counts::channels_of;
+use enumerator_joins::counts::joins_late;
 use enumerator_joins::counts::passes_limit;
 use enumerator_joins::counts::states_of;
 use joining::JoinAnswer;
@@ -21,6 +22,7 @@ use limits::LARGEST_TEXT;
 use limits::SHORTEST_TICK;
 use limits::STEP_LIMIT;
 use random_calls::JOINED;
+use random_calls::LATE_JOINED;
 use random_calls::PARALLEL_JOINED;
 use random_calls::add;
 use random_calls::answer_of;
@@ -169,6 +171,15 @@ fn exact_case(
     count_call(tally, expected, made && same(expected, got));
 }
 
+// Counts a joined text, and whether it has parallel edges and late clocks.
+fn count_joined(a: Reading, b: Reading, w: Two, c: Channels, tally: &mut [usize]) {
+    let l = a.text;
+    let r = b.text;
+    add(&mut *tally, JOINED, true);
+    add(&mut *tally, PARALLEL_JOINED, joins_parallel(a, b, w));
+    add(tally, LATE_JOINED, joins_late(l, r, c));
+}
+
 // A joined text that passes no limit: in a slice with room for every text, in one of its length, and in one that is a
 // byte too short (SPECIFICATION 18.9).
 fn written_cases(
@@ -187,8 +198,7 @@ fn written_cases(
     let expected = done(n, false);
     let made = is_written(&out, n, left, a, b, w, c);
     count_call(&mut *tally, expected, made && same(expected, got));
-    add(&mut *tally, JOINED, true);
-    add(&mut *tally, PARALLEL_JOINED, joins_parallel(a, b, w));
+    count_joined(a, b, w, c, &mut *tally);
     exact_case(period, left, right, &out, n, &mut *tally);
     let f = Refusal::out_too_short(n);
     let less = std::num::wrapping_sub_usize(n, 1);

@@ -56,71 +56,75 @@ const SHIFTED_BOUND: usize = 1;
 
 const OTHER_TARGET: usize = 2;
 
-const OTHER_RESETS: usize = 3;
+const OTHER_CLOCKS: usize = 3;
 
 const LONGER_STAY: usize = 4;
 
 const NO_INVARIANT: usize = 5;
 
-const OTHER_OUTPUT: usize = 6;
+const OTHER_VALUES: usize = 6;
 
-const DROPPED_EDGE: usize = 7;
+const OTHER_OUTPUT: usize = 7;
 
-const DOUBLED_EDGE: usize = 8;
+const DROPPED_EDGE: usize = 8;
 
-const OVERLAP: usize = 9;
+const DOUBLED_EDGE: usize = 9;
 
-const RENAMED: usize = 10;
+const OVERLAP: usize = 10;
 
-const OTHER_MARK: usize = 11;
+const RENAMED: usize = 11;
 
-const ONE_MARK: usize = 12;
+const OTHER_MARK: usize = 12;
 
-const LARGE_BOUND: usize = 13;
+const ONE_MARK: usize = 13;
 
-const TOO_LARGE_BOUND: usize = 14;
+const LARGE_BOUND: usize = 14;
 
-const LONG_CHANNEL: usize = 15;
+const TOO_LARGE_BOUND: usize = 15;
 
-const LONG_CLOCK: usize = 16;
+const LONG_CHANNEL: usize = 16;
 
-const LONG_LOCATION: usize = 17;
+const LONG_CLOCK: usize = 17;
 
-const MANY_CHANNELS: usize = 18;
+const LONG_LOCATION: usize = 18;
 
-const MANY_CLOCKS: usize = 19;
+const MANY_CHANNELS: usize = 19;
 
-const MANY_LOCATIONS: usize = 20;
+const MANY_CLOCKS: usize = 20;
 
-const LONG_INVARIANT: usize = 21;
+const MANY_LOCATIONS: usize = 21;
 
-const LONG_GUARD: usize = 22;
+const LONG_INVARIANT: usize = 22;
 
-const STRAY_BYTE: usize = 23;
+const LONG_GUARD: usize = 23;
 
-const CUT_OFF: usize = 24;
+const STRAY_BYTE: usize = 24;
 
-const SAME_NAME: usize = 25;
+const CUT_OFF: usize = 25;
 
-const OTHER_NAME: usize = 26;
+const SAME_NAME: usize = 26;
 
-const ZERO_BOUND: usize = 27;
+const OTHER_NAME: usize = 27;
 
-const OTHER_SIGN: usize = 28;
+const ZERO_BOUND: usize = 28;
 
-const RESET_TO_ONE: usize = 29;
+const OTHER_SIGN: usize = 29;
 
-const CHANGES: usize = 30;
+const LARGE_VALUE: usize = 30;
+
+const TOO_LARGE_VALUE: usize = 31;
+
+const CHANGES: usize = 32;
 
 // A change that comes up in viewpoints alone.
-const LARGE_CONSTANTS: usize = 30;
+const LARGE_CONSTANTS: usize = 32;
 
 // What is chosen. To the first ones the number of an edge in its group or of a comparison is added.
 const TARGETS: usize = 8;
 
-const RESETS: usize = 16;
+const SETS: usize = 16;
 
-const ALL_RESETS: usize = 24;
+const WHOLE_SETS: usize = 24;
 
 const CLOCKS: usize = 32;
 
@@ -187,6 +191,17 @@ const ADDED_SIGNS: usize = 104;
 
 const ADDED_BOUNDS: usize = 112;
 
+// What is chosen of assignments. To all but the last one the numbers of an edge and of a clock are added.
+const VALUES: usize = 120;
+
+const LATE_VALUES: usize = 136;
+
+const REPEATS: usize = 152;
+
+const OVERRIDDEN: usize = 168;
+
+const LATES: usize = 184;
+
 // Most texts have fewer channels of a direction, at most as many locations, and constants below this number.
 const FEW: usize = 4;
 
@@ -221,6 +236,10 @@ const SECOND_SIGN_ODDS: usize = 12;
 const DOUBLE_ODDS: usize = 8;
 
 const OPEN_DOUBLE_ODDS: usize = 12;
+
+const VALUE_ODDS: usize = 16;
+
+const REPEAT_ODDS: usize = 12;
 
 const ROUNDING_ODDS: usize = 5;
 
@@ -266,13 +285,13 @@ const SIGN_COUNT: usize = 6;
 const REFUSED_SIGNS: usize = 3;
 
 // The kinds of edges that are written again (SPECIFICATION 7.2): the same edge; one whose guard has a comparison more;
-// one that resets a clock more or one less, where that clock is 0; one that leads to another location, by a guard that
-// never holds.
+// one that assigns a clock more or one less, where that clock has the value assigned; one that leads to another location,
+// by a guard that never holds.
 const SAME_EDGE: usize = 0;
 
 const NARROWER: usize = 1;
 
-const OTHER_RESET: usize = 2;
+const OTHER_SET: usize = 2;
 
 const ELSEWHERE: usize = 3;
 
@@ -885,17 +904,18 @@ fn own_choice(g: Shape, what: usize, l: usize, c: usize, j: usize, n: usize) -> 
     pick(g.gap, plus(what, minus(j, group_size(g, l, c))), l, c, n)
 }
 
-// The clock of the comparison that is added; the one by which resets differ.
+// The clock of the comparison that is added; the one by which assignments differ.
 fn own_clock(g: Shape, l: usize, c: usize, j: usize) -> usize {
     own_choice(g, ADDED_CLOCKS, l, c, j, clocks(g))
 }
 
-// The sign of the comparison that is added: any, one that holds at 0 alone, or one that does not hold at 0 either.
+// The sign of the comparison that is added: any, one that holds at the value assigned alone, or one that does not hold
+// at 0 either.
 fn added_sign(g: Shape, l: usize, c: usize, j: usize) -> usize {
     match kind_of(g, l, c, j) {
         NARROWER => plus(own_choice(g, ADDED_SIGNS, l, c, j, SIGN_COUNT - 1), 1),
-        OTHER_RESET => {
-            if own_choice(g, ADDED_SIGNS, l, c, j, EITHER) == 0 {
+        OTHER_SET => {
+            if own_choice(g, ADDED_SIGNS, l, c, j, EITHER) == 0 && added_bound(g, l, c, j) == 0 {
                 return AT_MOST;
             }
             EQUAL
@@ -905,10 +925,11 @@ fn added_sign(g: Shape, l: usize, c: usize, j: usize) -> usize {
 }
 
 fn added_bound(g: Shape, l: usize, c: usize, j: usize) -> usize {
-    if kind_of(g, l, c, j) == NARROWER {
-        return own_choice(g, ADDED_BOUNDS, l, c, j, constants(g));
+    match kind_of(g, l, c, j) {
+        NARROWER => own_choice(g, ADDED_BOUNDS, l, c, j, constants(g)),
+        OTHER_SET => value_of(g, l, c, j, own_clock(g, l, c, j)),
+        _ => 0,
     }
-    0
 }
 
 // A sign that is refused in an invariant.
@@ -1121,17 +1142,17 @@ fn target_of(g: Shape, l: usize, c: usize, j: usize) -> usize {
     t
 }
 
-// All clocks are mostly set to 0 on the way to another location with an invariant, which then holds.
-fn own_resets(g: Shape, l: usize, c: usize, j: usize) -> usize {
-    let r = choice(g, plus(RESETS, j), l, c, EVERY_CLOCK + 1);
-    if change_at(g, l, c) == OTHER_RESETS {
+// All clocks are mostly assigned on the way to another location with an invariant, which then mostly holds.
+fn own_set(g: Shape, l: usize, c: usize, j: usize) -> usize {
+    let r = choice(g, plus(SETS, j), l, c, EVERY_CLOCK + 1);
+    if change_at(g, l, c) == OTHER_CLOCKS {
         return r ^ EVERY_CLOCK;
     }
     let t = own_target(g, l, c, j);
     if t == l || invariant_count(g, t) == 0 {
         return r;
     }
-    if choice(g, plus(ALL_RESETS, j), l, c, OPEN_ODDS) == 0 {
+    if choice(g, plus(WHOLE_SETS, j), l, c, OPEN_ODDS) == 0 {
         return r;
     }
     EVERY_CLOCK
@@ -1146,16 +1167,16 @@ fn only(k: usize) -> usize {
     }
 }
 
-// The clocks that an edge resets.
-fn resets_of(g: Shape, l: usize, c: usize, j: usize) -> usize {
-    let r = own_resets(g, l, c, original(g, l, c, j));
-    if kind_of(g, l, c, j) == OTHER_RESET {
+// The clocks that an edge assigns.
+fn set_of(g: Shape, l: usize, c: usize, j: usize) -> usize {
+    let r = own_set(g, l, c, original(g, l, c, j));
+    if kind_of(g, l, c, j) == OTHER_SET {
         return r ^ only(own_clock(g, l, c, j));
     }
     r
 }
 
-fn is_reset(set: usize, k: usize) -> bool {
+fn is_in(set: usize, k: usize) -> bool {
     match k {
         0 => set % 2 == 1,
         1 => set / SECOND_CLOCK % 2 == 1,
@@ -1163,25 +1184,179 @@ fn is_reset(set: usize, k: usize) -> bool {
     }
 }
 
-// The reset of a clock that is in the set; the list of resets begins at `from`. Another value than 0 is refused as it is
-// written: 1 millisecond is, though it comes to no tick at most lengths (SPECIFICATION 4.7).
-fn reset(buf: &mut [u8], p: Pen, g: Shape, set: usize, k: usize, from: usize) -> Pen {
-    if clocks(g) <= k || !is_reset(set, k) {
-        return p;
+// Whether an edge assigns a clock that the text has.
+fn is_assigned(g: Shape, l: usize, c: usize, j: usize, k: usize) -> bool {
+    k < clocks(g) && is_in(set_of(g, l, c, j), k)
+}
+
+// Whether the edges set clocks to other values than 0 as well.
+fn is_late(g: Shape) -> bool {
+    pick(g.seed, LATES, 0, 0, EITHER) == 0
+}
+
+// The largest value that a location mostly allows.
+fn highest(g: Shape, t: usize) -> usize {
+    if invariant_count(g, t) == 0 {
+        return constants(g);
     }
+    bound_at(g, t, INVARIANT, 0, 0)
+}
+
+// The number of an assignment: each edge has one for each clock.
+fn assignment_number(j: usize, k: usize) -> usize {
+    plus(plus(plus(j, j), j), k)
+}
+
+// What edge j of a group sets a clock to: 0, a value that the target mostly allows, or one more.
+fn late_value(g: Shape, l: usize, c: usize, j: usize, k: usize) -> usize {
+    let at = assignment_number(j, k);
+    let most = plus(highest(g, own_target(g, l, c, j)), 1);
+    let n = choice(g, plus(LATE_VALUES, at), l, c, most);
+    match choice(g, plus(VALUES, at), l, c, VALUE_ODDS) {
+        0 => plus(n, 1),
+        1..=7 => 0,
+        _ => n,
+    }
+}
+
+// Whether the change is a large value: in an assignment that counts (0), or in one that is overridden (1).
+fn is_large(g: Shape, l: usize, c: usize, which: usize) -> bool {
+    let change = change_at(g, l, c);
+    if change != LARGE_VALUE && change != TOO_LARGE_VALUE {
+        return false;
+    }
+    excess(g) == which
+}
+
+fn large_value(g: Shape) -> usize {
+    if g.change == TOO_LARGE_VALUE {
+        return LARGEST_CONSTANT + 1;
+    }
+    LARGEST_CONSTANT
+}
+
+// What an edge sets a clock to; one that is written again sets it to the same.
+fn value_of(g: Shape, l: usize, c: usize, j: usize, k: usize) -> usize {
+    if is_large(g, l, c, 0) {
+        return large_value(g);
+    }
+    let mut n: usize = 0;
+    if is_late(g) {
+        n = late_value(g, l, c, original(g, l, c, j), k);
+    }
+    if change_at(g, l, c) == OTHER_VALUES {
+        return plus(n, 1);
+    }
+    n
+}
+
+// Whether an edge assigns a clock once more, before the assignment that counts.
+fn is_overridden(g: Shape, l: usize, c: usize, j: usize, k: usize) -> bool {
+    if is_large(g, l, c, 1) {
+        return true;
+    }
+    if !is_late(g) {
+        return false;
+    }
+    pick(
+        g.gap,
+        plus(REPEATS, assignment_number(j, k)),
+        l,
+        c,
+        REPEAT_ODDS,
+    )
+        == 0
+}
+
+// The value of that one.
+fn overridden_value(g: Shape, l: usize, c: usize, j: usize, k: usize) -> usize {
+    if is_large(g, l, c, 1) {
+        return large_value(g);
+    }
+    pick(
+        g.gap,
+        plus(OVERRIDDEN, assignment_number(j, k)),
+        l,
+        c,
+        plus(constants(g), 2),
+    )
+}
+
+// An assignment of n ticks; the list of assignments begins at `from`.
+fn assignment(buf: &mut [u8], p: Pen, g: Shape, k: usize, n: usize, from: usize) -> Pen {
     let mut q = either(&mut *buf, p, g, p.at == from, b"assign ", b"~,~");
     q = clock(&mut *buf, q, g, k);
     q = words(&mut *buf, q, g, b"~=~");
-    if g.change == RESET_TO_ONE {
-        return numeral(buf, noted(q, MISFIT), g, 1);
-    }
-    numeral(buf, q, g, 0)
+    constant(buf, q, g, n)
 }
 
-fn resets(buf: &mut [u8], p: Pen, g: Shape, set: usize) -> Pen {
-    let mut q = reset(&mut *buf, p, g, set, 0, p.at);
-    q = reset(&mut *buf, q, g, set, 1, p.at);
-    q = reset(&mut *buf, q, g, set, 2, p.at);
+// The assignment of a clock that a later one overrides, if there is one.
+fn overridden(
+    buf: &mut [u8],
+    p: Pen,
+    g: Shape,
+    l: usize,
+    c: usize,
+    j: usize,
+    k: usize,
+    from: usize,
+) -> Pen {
+    if is_assigned(g, l, c, j, k) && is_overridden(g, l, c, j, k) {
+        return assignment(buf, p, g, k, overridden_value(g, l, c, j, k), from);
+    }
+    p
+}
+
+// The assignment of a clock that counts, if there is one.
+fn assigned(
+    buf: &mut [u8],
+    p: Pen,
+    g: Shape,
+    l: usize,
+    c: usize,
+    j: usize,
+    k: usize,
+    from: usize,
+) -> Pen {
+    if is_assigned(g, l, c, j, k) {
+        return assignment(buf, p, g, k, value_of(g, l, c, j, k), from);
+    }
+    p
+}
+
+// The assignments that later ones override, by clock.
+fn all_overridden(
+    buf: &mut [u8],
+    p: Pen,
+    g: Shape,
+    l: usize,
+    c: usize,
+    j: usize,
+    from: usize,
+) -> Pen {
+    let mut q = overridden(&mut *buf, p, g, l, c, j, 0, from);
+    q = overridden(&mut *buf, q, g, l, c, j, 1, from);
+    overridden(buf, q, g, l, c, j, 2, from)
+}
+
+// The assignments that count, by clock.
+fn all_assigned(
+    buf: &mut [u8],
+    p: Pen,
+    g: Shape,
+    l: usize,
+    c: usize,
+    j: usize,
+    from: usize,
+) -> Pen {
+    let mut q = assigned(&mut *buf, p, g, l, c, j, 0, from);
+    q = assigned(&mut *buf, q, g, l, c, j, 1, from);
+    assigned(buf, q, g, l, c, j, 2, from)
+}
+
+fn assignments(buf: &mut [u8], p: Pen, g: Shape, l: usize, c: usize, j: usize) -> Pen {
+    let mut q = all_overridden(&mut *buf, p, g, l, c, j, p.at);
+    q = all_assigned(&mut *buf, q, g, l, c, j, p.at);
     after(buf, q, g, p.at, b"~;~")
 }
 
@@ -1215,7 +1390,7 @@ fn target(buf: &mut [u8], p: Pen, g: Shape, t: usize) -> Pen {
 fn label(buf: &mut [u8], p: Pen, g: Shape, l: usize, c: usize, j: usize) -> Pen {
     let mut q = comparisons(&mut *buf, p, g, l, c, j, b"guard ", b"~;~");
     q = sync(&mut *buf, q, g, l, c);
-    resets(buf, q, g, resets_of(g, l, c, j))
+    assignments(buf, q, g, l, c, j)
 }
 
 fn edge(buf: &mut [u8], p: Pen, g: Shape, l: usize, c: usize, j: usize) -> Pen {

@@ -73,7 +73,7 @@ fn constant_of(period: usize, s: &[u8], t: Token, least: usize) -> Amount
 }
 
 // The next token as a constant.
-fn constant(period: usize, s: &[u8], st: Status, least: usize) -> Amount
+pub fn constant(period: usize, s: &[u8], st: Status, least: usize) -> Amount
     requires { ⌜ Tick-length period ⌝ }
     ensures { λ r. ⌜ r ≡ constant period least (now (s .entry)) st ⌝ }
 {

@@ -1,4 +1,4 @@
--- An edge: its locations, guard, label and resets (SPECIFICATION 3.1).
+-- An edge: its locations, guard, label and assignments (SPECIFICATION 3.1).
 use mathlib.Core.Bool.{Bool, false}
 use mathlib.Core.List.{List}
 use Prim.Native.Nat.{ℕ}
@@ -24,7 +24,7 @@ module _ (period : ℕ) where
       let target = use-name s (take s (source .status) kinds.arrow) names first-location location-limit false in
       let given = guard period s (take s (target .status) kinds.opens) names in
       let labelled = label-next s (given .status) names channels in
-      let assigned = assigns s (labelled .status) names in
+      let assigned = assigns period s (labelled .status) names in
       record {
         status = take s (assigned .status) kinds.closes;
         channel = labelled .channel;
@@ -34,6 +34,6 @@ module _ (period : ℕ) where
           target = target .number;
           guard = given .constraint;
           label = labelled .label;
-          resets = assigned .resets;
+          assignments = assigned .assignments;
         };
       }

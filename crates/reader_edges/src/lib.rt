@@ -1,11 +1,12 @@
-// Reads an edge of a contract text: its locations, guard, label and resets (SPECIFICATION 3.1).
+// Reads an edge of a contract text: its locations, guard, label and assignments (SPECIFICATION 3.1).
 ghost use mathlib.Core.Path.{_≡_};
 ghost use mathlib.Core.Bool.{true, false};
 ghost use Prim.Native.Nat.{_+_, _≤_, _<_};
 ghost use lib.ListN.{length, getD};
 ghost use Rattle.reader_record.specs.Record.{no-channel};
 ghost use Rattle.reader_edges.specs.Labels.{no-mark, mark-next, fits, mark-judged, label-of, label-next};
-ghost use Rattle.reader_edges.specs.Assigns.{zero-next, assign-next, no-resets, assign-items, assigns};
+ghost use Rattle.reader_edges.specs.Assigns.{no-assignments, then-assigned};
+ghost use Rattle.reader_edges.specs.Assigns.{assign-next, assign-items, assigns};
 ghost use Rattle.reader_edges.specs.Edges.{edge-next};
 use limits::CHANNEL_LIMIT;
 use limits::CLOCK_LIMIT;
@@ -16,12 +17,16 @@ use reader_parts::FIRST_LOCATION;
 use reader_parts::Fault;
 use reader_parts::NAME_SLOTS;
 use reader_parts::Status;
+use reader_record::Assignment;
 use reader_record::Channel;
 use reader_record::Direction;
 use reader_record::Edge;
 use reader_record::Label;
 use reader_record::Name;
 ghost use Rattle.limits.specs.Limits.{Tick-length, largest-text, channel-limit};
+
+// The least constant that may be assigned: any may.
+const LEAST_ASSIGNED: usize = 0;
 
 pub struct MarkRead {
     pub status: Status,
@@ -147,95 +152,93 @@ fn label_next(
     }
 }
 
-// The next token, which has to be a numeral of the value 0 (SPECIFICATION 3.2).
-fn zero_next(s: &[u8], st: Status) -> Status
-    ensures { λ r. ⌜ r ≡ zero-next (now (s .entry)) st ⌝ }
-{
-    match st {
-        Status::Refused(f) => Status::Refused(f),
-        Status::At(p) => {
-            let t = reader_scanner::scan(s, p);
-            let a = t.place;
-            let f = Fault::Misfit(a);
-            if t.kind != reader_tokens::NUMERAL {
-                return Status::Refused(f);
-            }
-            let v = reader_tokens::number_at(s, a);
-            if v != 0 {
-                return Status::Refused(f);
-            }
-            Status::At(t.end)
-        }
-    }
-}
-
 pub struct AssignRead {
     pub status: Status,
     pub clock: usize,
+    pub value: u16,
 }
 
-// A reset (SPECIFICATION 3.1).
-fn assign_next(s: &[u8], st: Status, names: [Name; NAME_SLOTS]) -> AssignRead
-    requires { ⌜ length (now s) ≤ largest-text ⌝ }
-    ensures { λ r. ⌜ r ≡ assign-next (now (s .entry)) st names ⌝ }
+// An assignment (SPECIFICATION 3.1).
+fn assign_next(period: usize, s: &[u8], st: Status, names: [Name; NAME_SLOTS]) -> AssignRead
+    requires { ⌜ Tick-length period × (length (now s) ≤ largest-text) ⌝ }
+    ensures { λ r. ⌜ r ≡ assign-next period (now (s .entry)) st names ⌝ }
 {
     let clock = reader_parts::use_name(s, st, names, FIRST_CLOCK, CLOCK_LIMIT, false);
     let named = clock.status;
     let becomes = reader_parts::take(s, named, reader_tokens::BECOMES);
-    let end = zero_next(s, becomes);
+    let given = reader_constraints::constant(period, s, becomes, LEAST_ASSIGNED);
+    let end = given.status;
+    let value = given.value as u16;
     AssignRead {
         status: end,
         clock: clock.number,
+        value: value,
     }
 }
 
-fn no_resets() -> [bool; CLOCK_LIMIT]
-    ensures { λ r. ⌜ r ≡ no-resets ⌝ }
+pub fn no_assignments() -> [Assignment; CLOCK_LIMIT]
+    ensures { λ r. ⌜ r ≡ no-assignments ⌝ }
 {
-    [false; CLOCK_LIMIT]
+    let none = reader_record::no_assignment();
+    [none; CLOCK_LIMIT]
+}
+
+// The assignment of a clock that is assigned v after a: the last value counts, and the largest is kept beside it
+// (SPECIFICATION 5.4).
+fn then_assigned(a: Assignment, v: u16) -> Assignment
+    ensures { λ r. ⌜ r ≡ then-assigned a v ⌝ }
+{
+    let most = if a.largest < v { v } else { a.largest };
+    Assignment {
+        made: true,
+        value: v,
+        largest: most,
+    }
 }
 
 pub struct AssignsRead {
     pub status: Status,
-    pub resets: [bool; CLOCK_LIMIT],
+    pub assignments: [Assignment; CLOCK_LIMIT],
 }
 
-// The resets after `assign`. Each comma that is taken leaves fewer bytes.
-fn assign_items(s: &[u8], st: Status, names: [Name; NAME_SLOTS]) -> AssignsRead
-    requires { ⌜ length (now s) ≤ largest-text ⌝ }
-    ensures { λ r. ⌜ r ≡ assign-items (now (s .entry)) names st no-resets ⌝ }
+// The assignments after `assign`. Each comma that is taken leaves fewer bytes.
+fn assign_items(period: usize, s: &[u8], st: Status, names: [Name; NAME_SLOTS]) -> AssignsRead
+    requires { ⌜ Tick-length period × (length (now s) ≤ largest-text) ⌝ }
+    ensures { λ r. ⌜ r ≡ assign-items period (now (s .entry)) names st no-assignments ⌝ }
 {
-    let mut resets = [false; CLOCK_LIMIT];
+    let none = reader_record::no_assignment();
+    let mut all = [none; CLOCK_LIMIT];
     let mut q = st;
     loop {
-        let x = assign_next(s, q, names);
+        let x = assign_next(period, s, q, names);
         let came = x.status;
         let k = x.clock;
-        resets[k] = true;
+        let before = all[k];
+        all[k] = then_assigned(before, x.value);
         if !reader_parts::ahead(s, came, reader_tokens::COMMA) {
             let end = reader_parts::take(s, came, reader_tokens::SEMICOLON);
             return AssignsRead {
                 status: end,
-                resets: resets,
+                assignments: all,
             };
         }
         q = reader_parts::take(s, came, reader_tokens::COMMA);
     }
 }
 
-// The resets of an edge, where there are any (SPECIFICATION 3.1).
-fn assigns(s: &[u8], st: Status, names: [Name; NAME_SLOTS]) -> AssignsRead
-    requires { ⌜ length (now s) ≤ largest-text ⌝ }
-    ensures { λ r. ⌜ r ≡ assigns (now (s .entry)) st names ⌝ }
+// The assignments of an edge, where there are any (SPECIFICATION 3.1).
+fn assigns(period: usize, s: &[u8], st: Status, names: [Name; NAME_SLOTS]) -> AssignsRead
+    requires { ⌜ Tick-length period × (length (now s) ≤ largest-text) ⌝ }
+    ensures { λ r. ⌜ r ≡ assigns period (now (s .entry)) st names ⌝ }
 {
     if reader_parts::ahead(s, st, reader_tokens::ASSIGN) {
         let q = reader_parts::take(s, st, reader_tokens::ASSIGN);
-        return assign_items(s, q, names);
+        return assign_items(period, s, q, names);
     }
-    let none = no_resets();
+    let none = no_assignments();
     AssignsRead {
         status: st,
-        resets: none,
+        assignments: none,
     }
 }
 
@@ -268,12 +271,12 @@ pub fn edge_next(
     let e = given.status;
     let labelled = label_next(s, e, names, channels);
     let f = labelled.status;
-    let assigned = assigns(s, f, names);
+    let assigned = assigns(period, s, f, names);
     let g = assigned.status;
     let end = reader_parts::take(s, g, reader_tokens::CLOSE);
     let guard = given.constraint;
     let label = labelled.label;
-    let resets = assigned.resets;
+    let assignments = assigned.assignments;
     let from = source.number as u8;
     let to = target.number as u8;
     let made = Edge {
@@ -281,7 +284,7 @@ pub fn edge_next(
         target: to,
         guard: guard,
         label: label,
-        resets: resets,
+        assignments: assignments,
     };
     EdgeRead {
         status: end,

@@ -1,5 +1,5 @@
--- The ten posts (SPECIFICATION 16.1) and two texts of SPECIFICATION 16.10 read to their records, at tick length 1, and
--- Sheet at others (SPECIFICATION 16.9): computed by the definition of reading.
+-- The eleven posts (SPECIFICATION 16.1) and texts of SPECIFICATION 16.10 and 16.11 read to their records, at tick length
+-- 1, and Sheet at others (SPECIFICATION 16.9): computed by the definition of reading.
 use mathlib.Core.Path.{_≡_, refl}
 use mathlib.Core.List.{List}
 use Prim.Native.Nat.{ℕ}
@@ -9,8 +9,8 @@ use Rattle.refusals.specs.Refusals.{constant-too-large, tick-out-of-range}
 use Rattle.reader_lists.specs.State.{no-text}
 use Rattle.reader.specs.Reading.{read-text}
 use Rattle.reader_examples.specs.Opened.{opened}
-use Rattle.reader_examples.specs.Texts.{post, rearm, early, strict, loose, sheet, hush, idle, spare, twice, stay-or-go, reset-or-not}
-use Rattle.reader_examples.specs.Records.{post-record, rearm-record, early-record, strict-record, loose-record, sheet-record, hush-record, idle-record, spare-record, twice-record, stay-or-go-record, reset-or-not-record}
+use Rattle.reader_examples.specs.Texts.{post, rearm, woken, overridden, too-late, early, strict, loose, sheet, hush, idle, spare, twice, stay-or-go, reset-or-not, late-or-not, woken-twice}
+use Rattle.reader_examples.specs.Records.{post-record, rearm-record, woken-record, overridden-record, too-late-record, early-record, strict-record, loose-record, sheet-record, hush-record, idle-record, spare-record, twice-record, stay-or-go-record, reset-or-not-record, late-or-not-record, woken-twice-record}
 use Rattle.limits.specs.Limits.{shortest-tick}
 
 abbrev pub Reads-at : ℕ → List ℕ → Text → Type 0
@@ -26,6 +26,18 @@ post-read = refl
 pub rearm-read : Reads-to rearm rearm-record
 unfolding opened
 rearm-read = refl
+
+pub woken-read : Reads-to woken woken-record
+unfolding opened
+woken-read = refl
+
+pub overridden-read : Reads-to overridden overridden-record
+unfolding opened
+overridden-read = refl
+
+pub too-late-read : Reads-to too-late too-late-record
+unfolding opened
+too-late-read = refl
 
 pub early-read : Reads-to early early-record
 unfolding opened
@@ -62,6 +74,14 @@ stay-or-go-read = refl
 pub reset-or-not-read : Reads-to reset-or-not reset-or-not-record
 unfolding opened
 reset-or-not-read = refl
+
+pub late-or-not-read : Reads-to late-or-not late-or-not-record
+unfolding opened
+late-or-not-read = refl
+
+pub woken-twice-read : Reads-to woken-twice woken-twice-record
+unfolding opened
+woken-twice-read = refl
 
 -- a half goes up: 2,500 at 1,000 and 3,000 at 2,000; 2,500 at 2,000 goes down
 pub record Sheet-read : Type 0 where

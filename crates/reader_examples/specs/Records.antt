@@ -1,10 +1,9 @@
--- The records of the twelve texts, written out: the names by byte place and length, clocks and locations from 0, channels
--- from 1.
-use mathlib.Core.Bool.{Bool, true, false}
+-- The records of the texts, written out: the names by byte place and length, clocks and locations from 0, channels from 1.
+use mathlib.Core.Bool.{true}
 use mathlib.Core.List.{List, [], _∷_, _++_}
 use Prim.Native.Nat.{ℕ, _-_}
 use lib.ListN.{length, replicate}
-use Rattle.reader_record.specs.Record.{no-name, no-channel, no-comparison}
+use Rattle.reader_record.specs.Record.{no-name, no-channel, no-comparison, no-assignment}
 use Rattle.reader_record.specs.declared.Name.{Name}
 use Rattle.reader_record.specs.declared.Direction.{Direction}
 use Rattle.reader_record.specs.declared.Direction.the-variants as direction
@@ -15,6 +14,7 @@ use Rattle.reader_record.specs.declared.Constraint.{Constraint}
 use Rattle.reader_record.specs.declared.Location.{Location}
 use Rattle.reader_record.specs.declared.Label.{Label}
 use Rattle.reader_record.specs.declared.Label.the-variants.{Input, Output}
+use Rattle.reader_record.specs.declared.Assignment.{Assignment}
 use Rattle.reader_record.specs.declared.Edge.{Edge}
 use Rattle.reader_record.specs.declared.Text.{Text}
 use Rattle.reader_lists.specs.State.{blank-edge}
@@ -39,14 +39,22 @@ x-is sign bound =
       count = 1;
     }
 
-abbrev edge : ℕ → ℕ → Constraint → Label → Bool → Edge
-edge source target guard label reset =
+-- a clock is set to a value, the only one written or after a larger one
+abbrev pub set-to : ℕ → Assignment
+set-to v = record { made = true; value = v; largest = v }
+
+abbrev set-after : ℕ → ℕ → Assignment
+set-after largest v = record { made = true; value = v; largest = largest }
+
+-- an edge, by what it does to the clock x
+abbrev edge : ℕ → ℕ → Constraint → Label → Assignment → Edge
+edge source target guard label x =
     record {
       source = source;
       target = target;
       guard = guard;
       label = label;
-      resets = filled clock-limit false (reset ∷ []);
+      assignments = filled clock-limit no-assignment (x ∷ []);
     }
 
 abbrev location : Name → Constraint → Location
@@ -72,63 +80,72 @@ marker late ls es = record {
 abbrev wait-done : Constraint → ℕ → List Location
 wait-done wait done = location (at 66 4) wait ∷ location (at done 4) blank-constraint ∷ []
 
--- the edges of Wait and Done: the first, and those behind it by whether `spike` resets x and by the guard of `late`
+-- the edges of Wait and Done: the first, and those behind it by what `spike` does to x and by the guard of `late`
 abbrev first-edge : Edge
-first-edge = edge 0 1 blank-constraint (Input 1) false
+first-edge = edge 0 1 blank-constraint (Input 1) no-assignment
 
-abbrev later-edges : Bool → Constraint → List Edge
+abbrev later-edges : Assignment → Constraint → List Edge
 later-edges spike late =
     edge 0 0 blank-constraint (Input 2) spike
-    ∷ edge 0 1 late (Output 3) false
-    ∷ edge 1 1 blank-constraint (Input 1) false
-    ∷ edge 1 1 blank-constraint (Input 2) false
+    ∷ edge 0 1 late (Output 3) no-assignment
+    ∷ edge 1 1 blank-constraint (Input 1) no-assignment
+    ∷ edge 1 1 blank-constraint (Input 2) no-assignment
     ∷ []
 
-abbrev timed-edges : Bool → Constraint → List Edge
+abbrev timed-edges : Assignment → Constraint → List Edge
 timed-edges spike late = first-edge ∷ later-edges spike late
 
--- Post and five others: the invariant of Wait, the place of Done, and the two edges differ
-abbrev timed : Constraint → ℕ → Bool → Constraint → Text
+-- Post and seven others: the invariant of Wait, the place of Done, and the two edges differ
+abbrev timed : Constraint → ℕ → Assignment → Constraint → Text
 timed wait done spike late = marker direction.Output (wait-done wait done) (timed-edges spike late)
 
 abbrev pub post-record : Text
-post-record = timed (x-is AtMost 3) 83 false (x-is AtLeast 3)
+post-record = timed (x-is AtMost 3) 83 no-assignment (x-is AtLeast 3)
 
--- the second edge resets x
+-- the second edge assigns x: 0, 1, 1 after 7, 4
 abbrev pub rearm-record : Text
-rearm-record = timed (x-is AtMost 3) 83 true (x-is AtLeast 3)
+rearm-record = timed (x-is AtMost 3) 83 (set-to 0) (x-is AtLeast 3)
+
+abbrev pub woken-record : Text
+woken-record = timed (x-is AtMost 3) 83 (set-to 1) (x-is AtLeast 3)
+
+abbrev pub overridden-record : Text
+overridden-record = timed (x-is AtMost 3) 83 (set-after 7 1) (x-is AtLeast 3)
+
+abbrev pub too-late-record : Text
+too-late-record = timed (x-is AtMost 3) 83 (set-to 4) (x-is AtLeast 3)
 
 -- both constants are 2
 abbrev pub early-record : Text
-early-record = timed (x-is AtMost 2) 83 false (x-is AtLeast 2)
+early-record = timed (x-is AtMost 2) 83 no-assignment (x-is AtLeast 2)
 
 -- strict signs, and Done stands a byte earlier in the text
 abbrev pub strict-record : Text
-strict-record = timed (x-is Less 4) 82 false (x-is Greater 2)
+strict-record = timed (x-is Less 4) 82 no-assignment (x-is Greater 2)
 
 -- the guard of `late` has the bound 2
 abbrev pub loose-record : Text
-loose-record = timed (x-is AtMost 3) 83 false (x-is AtLeast 2)
+loose-record = timed (x-is AtMost 3) 83 no-assignment (x-is AtLeast 2)
 
 -- by the two constants, in ticks; Done stands three bytes later in the text
 abbrev pub sheet-record : ℕ → ℕ → Text
-sheet-record wait late = timed (x-is AtMost wait) 86 false (x-is AtLeast late)
+sheet-record wait late = timed (x-is AtMost wait) 86 no-assignment (x-is AtLeast late)
 
 -- Off with its invariant, and an edge from it to itself for each input
 abbrev pub spare-record : Text
 spare-record =
     marker direction.Output (wait-done (x-is AtMost 3) 83 ++ location (at 89 3) (x-is AtMost 0) ∷ [])
-    (timed-edges false (x-is AtLeast 3)
-    ++ edge 2 2 blank-constraint (Input 1) false
-    ∷ edge 2 2 blank-constraint (Input 2) false
+    (timed-edges no-assignment (x-is AtLeast 3)
+    ++ edge 2 2 blank-constraint (Input 1) no-assignment
+    ∷ edge 2 2 blank-constraint (Input 2) no-assignment
     ∷ [])
 
 abbrev hushed : List Edge
 hushed =
-    edge 0 1 blank-constraint (Input 1) false
-    ∷ edge 0 0 blank-constraint (Input 2) false
-    ∷ edge 1 1 blank-constraint (Input 1) false
-    ∷ edge 1 1 blank-constraint (Input 2) false
+    edge 0 1 blank-constraint (Input 1) no-assignment
+    ∷ edge 0 0 blank-constraint (Input 2) no-assignment
+    ∷ edge 1 1 blank-constraint (Input 1) no-assignment
+    ∷ edge 1 1 blank-constraint (Input 2) no-assignment
     ∷ []
 
 -- no edge names `late`
@@ -142,14 +159,26 @@ idle-record = marker direction.Unused (wait-done blank-constraint 72) hushed
 -- one edge more, behind the first
 abbrev with-edge : Edge → Text
 with-edge second =
-    marker direction.Output (wait-done (x-is AtMost 3) 83) (first-edge ∷ second ∷ later-edges false (x-is AtLeast 3))
+    marker direction.Output (wait-done (x-is AtMost 3) 83) (first-edge ∷ second ∷ later-edges no-assignment (x-is AtLeast 3))
 
--- the first edge again; an edge to Wait; the first edge with x reset
+-- the first edge again; an edge to Wait; the first edge with x set to 0
 abbrev pub twice-record : Text
 twice-record = with-edge first-edge
 
 abbrev pub stay-or-go-record : Text
-stay-or-go-record = with-edge (edge 0 0 blank-constraint (Input 1) false)
+stay-or-go-record = with-edge (edge 0 0 blank-constraint (Input 1) no-assignment)
 
 abbrev pub reset-or-not-record : Text
-reset-or-not-record = with-edge (edge 0 1 blank-constraint (Input 1) true)
+reset-or-not-record = with-edge (edge 0 1 blank-constraint (Input 1) (set-to 0))
+
+-- an edge for `spike` that sets x to 1 beside the one that does not; two such edges
+abbrev waking : Edge
+waking = edge 0 0 blank-constraint (Input 2) (set-to 1)
+
+abbrev pub late-or-not-record : Text
+late-or-not-record = with-edge waking
+
+abbrev pub woken-twice-record : Text
+woken-twice-record =
+    marker direction.Output (wait-done (x-is AtMost 3) 83)
+    (first-edge ∷ waking ∷ later-edges (set-to 1) (x-is AtLeast 3))

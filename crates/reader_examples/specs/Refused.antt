@@ -122,10 +122,6 @@ pub record Ties : Type 0 where
       (constant-too-large 31)
   -- `00` is 0
   pub double-zero : Accepts "broadcast chan a,b;process P(){clock x;state A,B;init A;trans A->B{sync a!;assign x=00;};}system P;"
-  -- a reset to 1 or more is 2, also over 1,000
-  pub assigned-over : Refuses "broadcast chan a,b;process P(){clock x;state A,B;init A;trans A->B{sync a!;assign x=5000;};}system P;" (misfit 84)
-  -- a repeated clock is one reset
-  pub repeated : Accepts "broadcast chan a,b;process P(){clock x;state A,B;init A;trans A->B{sync a!;assign x=0,x=0;};}system P;"
   -- 3 before 5
   pub long-undeclared : Refuses "process P(){state A;init nnnnnnnnnnnnnnnnnnnnnnnnnnnnnnnn;}system P;"
       (name-too-long 25)
@@ -179,8 +175,6 @@ ties =
       zeros-over = refl;
       nines = refl;
       double-zero = refl;
-      assigned-over = refl;
-      repeated = refl;
       long-undeclared = refl;
       long-misfit = refl;
       one-name-space = refl;
@@ -260,9 +254,6 @@ pub record Lengths : Type 0 where
   pub half-is-one : Accepts-at 2 "process P(){clock x;state A{x<1},B;init B;}system P;"
   pub two-thirds : Accepts-at 3 "process P(){clock x;state A{x<2},B;init B;}system P;"
   pub at-most-third : Accepts-at 3 "process P(){clock x;state A{x<=1},B;init B;}system P;"
-  -- a reset is judged as it is written
-  pub reset : Refuses-at 3 "broadcast chan a;process P(){clock x;state A;init A;trans A->A{sync a!;assign x=1;};}system P;"
-      (misfit 80)
 
 pub lengths : Lengths
 unfolding opened
@@ -282,5 +273,56 @@ lengths =
       half-is-one = refl;
       two-thirds = refl;
       at-most-third = refl;
-      reset = refl;
+    }
+
+-- assignments: any numeral fits, 6 is judged at each of them by its ticks, and 2 where no numeral stands (SPECIFICATION
+-- 3.1, 4.3, 4.5, 4.7)
+pub record Assigning : Type 0 where
+  pub largest : Accepts "broadcast chan a,b;process P(){clock x;state A,B;init A;trans A->B{sync a!;assign x=1000;};}system P;"
+  pub over : Refuses "broadcast chan a,b;process P(){clock x;state A,B;init A;trans A->B{sync a!;assign x=1001;};}system P;"
+      (constant-too-large 84)
+  pub zeros : Accepts "broadcast chan a,b;process P(){clock x;state A,B;init A;trans A->B{sync a!;assign x=00001000;};}system P;"
+  pub nines : Refuses "broadcast chan a,b;process P(){clock x;state A,B;init A;trans A->B{sync a!;assign x=9999999999999999999999999999999999999999;};}system P;" (constant-too-large 84)
+  -- a repeated clock; also where the value is overridden, a constant over the limit is 6
+  pub repeated : Accepts "broadcast chan a,b;process P(){clock x;state A,B;init A;trans A->B{sync a!;assign x=5,x=0;};}system P;"
+  pub overridden-over : Refuses "broadcast chan a,b;process P(){clock x;state A,B;init A;trans A->B{sync a!;assign x=1001,x=0;};}system P;"
+      (constant-too-large 84)
+  pub second-over : Refuses "broadcast chan a,b;process P(){clock x;state A,B;init A;trans A->B{sync a!;assign x=0,x=1001;};}system P;"
+      (constant-too-large 88)
+  -- at 2, 3 and 60,000 milliseconds
+  pub halves : Accepts-at 2 "broadcast chan a,b;process P(){clock x;state A,B;init A;trans A->B{sync a!;assign x=2000;};}system P;"
+  pub halves-over : Refuses-at 2 "broadcast chan a,b;process P(){clock x;state A,B;init A;trans A->B{sync a!;assign x=2001;};}system P;"
+      (constant-too-large 84)
+  pub thirds : Accepts-at 3 "broadcast chan a,b;process P(){clock x;state A,B;init A;trans A->B{sync a!;assign x=3001;};}system P;"
+  pub thirds-over : Refuses-at 3 "broadcast chan a,b;process P(){clock x;state A,B;init A;trans A->B{sync a!;assign x=3002;};}system P;"
+      (constant-too-large 84)
+  pub longest : Accepts-at longest-tick "broadcast chan a,b;process P(){clock x;state A,B;init A;trans A->B{sync a!;assign x=60029999;};}system P;"
+  pub longest-over : Refuses-at longest-tick "broadcast chan a,b;process P(){clock x;state A,B;init A;trans A->B{sync a!;assign x=60030000;};}system P;" (constant-too-large 84)
+  -- no numeral, another sign, no item behind a comma, no clock
+  pub no-numeral : Refuses "broadcast chan a,b;process P(){clock x;state A,B;init A;trans A->B{sync a!;assign x=y;};}system P;" (misfit 84)
+  pub other-sign : Refuses "broadcast chan a,b;process P(){clock x;state A,B;init A;trans A->B{sync a!;assign x==1;};}system P;" (misfit 83)
+  pub comma : Refuses "broadcast chan a,b;process P(){clock x;state A,B;init A;trans A->B{sync a!;assign x=1,;};}system P;" (misfit 86)
+  pub location : Refuses "broadcast chan a,b;process P(){clock x;state A,B;init A;trans A->B{sync a!;assign A=1;};}system P;" (unknown-name 82)
+
+pub assigning : Assigning
+unfolding opened
+assigning =
+    record {
+      largest = refl;
+      over = refl;
+      zeros = refl;
+      nines = refl;
+      repeated = refl;
+      overridden-over = refl;
+      second-over = refl;
+      halves = refl;
+      halves-over = refl;
+      thirds = refl;
+      thirds-over = refl;
+      longest = refl;
+      longest-over = refl;
+      no-numeral = refl;
+      other-sign = refl;
+      comma = refl;
+      location = refl;
     }

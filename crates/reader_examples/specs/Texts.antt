@@ -1,4 +1,4 @@
--- The ten posts (SPECIFICATION 16.1) and two texts of SPECIFICATION 16.10, byte by byte.
+-- The eleven posts (SPECIFICATION 16.1) and texts of SPECIFICATION 16.10 and 16.11, byte by byte.
 use mathlib.Core.List.{List, [], _∷_, _++_}
 use Prim.Native.Nat.{ℕ}
 use Prim.Native.Char.{code}
@@ -22,7 +22,7 @@ posted locations edges =
     ∷ "trans"
     ∷ (edges ++ ("}" ∷ "system Post;" ∷ [])))
 
--- Post and five others: the locations, the edge of `spike` from Wait and that of `late` differ
+-- Post and seven others: the locations, the edge of `spike` from Wait and that of `late` differ
 abbrev marker : String → String → String → List ℕ
 marker locations spike late =
     posted locations
@@ -40,12 +40,36 @@ post =
     "Wait -> Wait { sync spike?; },"
     "Wait -> Done { guard x >= 3; sync late!; },"
 
--- a spike sets the clock back: the second edge has a reset (SPECIFICATION 16.1)
+-- a spike sets the clock back: the second edge assigns 0 (SPECIFICATION 16.1)
 abbrev pub rearm : List ℕ
 rearm =
     marker
     "state Wait { x <= 3 }, Done;"
     "Wait -> Wait { sync spike?; assign x = 0; },"
+    "Wait -> Done { guard x >= 3; sync late!; },"
+
+-- a unit that has used a tick already when a spike wakes it: the second edge assigns 1 (SPECIFICATION 16.1, 16.11)
+abbrev pub woken : List ℕ
+woken =
+    marker
+    "state Wait { x <= 3 }, Done;"
+    "Wait -> Wait { sync spike?; assign x = 1; },"
+    "Wait -> Done { guard x >= 3; sync late!; },"
+
+-- the same, with a larger value before it, which is overridden (SPECIFICATION 16.11)
+abbrev pub overridden : List ℕ
+overridden =
+    marker
+    "state Wait { x <= 3 }, Done;"
+    "Wait -> Wait { sync spike?; assign x = 7, x = 1; },"
+    "Wait -> Done { guard x >= 3; sync late!; },"
+
+-- a value that the invariant of Wait does not allow (SPECIFICATION 16.11)
+abbrev pub too-late : List ℕ
+too-late =
+    marker
+    "state Wait { x <= 3 }, Done;"
+    "Wait -> Wait { sync spike?; assign x = 4; },"
     "Wait -> Done { guard x >= 3; sync late!; },"
 
 -- one tick earlier: both constants are 2 (SPECIFICATION 16.1)
@@ -131,3 +155,19 @@ stay-or-go = with-edge "Wait -> Wait { sync pass?; },"
 
 abbrev pub reset-or-not : List ℕ
 reset-or-not = with-edge "Wait -> Done { sync pass?; assign x = 0; },"
+
+-- another edge for `spike`, which sets x to 1 (SPECIFICATION 16.11)
+abbrev pub late-or-not : List ℕ
+late-or-not = with-edge "Wait -> Wait { sync spike?; assign x = 1; },"
+
+-- Woken with its second edge twice: parallel edges that assign one value (SPECIFICATION 7.2)
+abbrev pub woken-twice : List ℕ
+woken-twice =
+    posted "state Wait { x <= 3 }, Done;"
+    ("Wait -> Done { sync pass?; },"
+    ∷ "Wait -> Wait { sync spike?; assign x = 1; },"
+    ∷ "Wait -> Wait { sync spike?; assign x = 1; },"
+    ∷ "Wait -> Done { guard x >= 3; sync late!; },"
+    ∷ "Done -> Done { sync pass?; },"
+    ∷ "Done -> Done { sync spike?; };"
+    ∷ [])

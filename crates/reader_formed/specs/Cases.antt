@@ -46,6 +46,15 @@ stored P l k i a d h f g =
     (λ e. rw (e, getD-set-same l k a d h) (f e))
     (λ e. rw (getD-set-other l k i a d e) (g e))
 
+-- what holds of an item of a list and of what is stored in it, wherever that is, holds after it is stored
+pub set-each :
+    {A : Type 0} (P : A → Type 0) (l : List A) (k i : ℕ) (a d : A) → P a → P (getD l i d) → P (getD (set l k a) i d)
+set-each P [] k i a d p q = q
+set-each P (b ∷ l) zero zero a d p q = p
+set-each P (b ∷ l) zero (suc i) a d p q = q
+set-each P (b ∷ l) (suc k) zero a d p q = q
+set-each P (b ∷ l) (suc k) (suc i) a d p q = set-each P l k i a d p q
+
 -- a list of equal items has that item wherever it is read
 pub blank : {A : Type 0} (n i : ℕ) (a : A) → getD (replicate n a) i a ≡ a
 blank n i a = by (ltb i n) refl

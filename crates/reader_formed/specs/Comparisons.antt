@@ -35,10 +35,10 @@ use Rattle.reader_formed.specs.Slots.{Known, used-below}
 use Rattle.limits.specs.Limits.{clock-limit, comparison-limit, largest-constant}
 
 -- a constant that is read
-record Constant (least : ℕ) (st : Status) (a : Amount) : Type 0 where
-  before : Going st
-  bound : a .value ≤ largest-constant
-  enough : least ≤ a .value
+pub record Constant (least : ℕ) (st : Status) (a : Amount) : Type 0 where
+  pub before : Going st
+  pub bound : a .value ≤ largest-constant
+  pub enough : least ≤ a .value
 
 -- a sign that is read
 record Signed (st : Status) (only : Bool) (r : SignRead) : Type 0 where
@@ -130,7 +130,7 @@ module _ (period : ℕ) where
       P : Amount → Type 0
       P a = Going (a .status) → least ≤ a .value
 
-  constant-read :
+  pub constant-read :
       (least : ℕ) (s : List ℕ) (st : Status) → Going (constant period least s st .status)
       → Constant least st (constant period least s st)
   unfolding constant

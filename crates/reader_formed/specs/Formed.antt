@@ -135,7 +135,7 @@ formed-of s names t h = record {
   target = λ i l. h .read .edge i l .target;
   direction = λ i l. h .read .edge i l .direction;
   label = λ i l. (h .read .edge i l .from-one, h .read .edge i l .declared);
-  assigned = λ i k l. h .read .edge i l .assigned k;
+  assigned = λ i l. h .read .edge i l .assigned;
   used = λ c a b q. let (i, l, e) = h .read .used (c - 1) q in
       (i, l, omega arith);
 }

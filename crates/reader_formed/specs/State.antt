@@ -17,7 +17,7 @@ use Rattle.reader_record.specs.declared.Edge.{Edge}
 use Rattle.reader_record.specs.declared.Label.{Label}
 use Rattle.reader_record.specs.declared.Text.{Text}
 use Rattle.reader_record.specs.Record.{no-name, no-channel, no-location, no-edge, channel}
-use Rattle.reader_record.specs.Formed.{agrees}
+use Rattle.reader_record.specs.Formed.{agrees, Formed-assignments}
 use Rattle.reader_edges.specs.Labels.{fits, label-of}
 use Rattle.reader_lists.specs.State.{with-channel, with-clock, with-location, with-edge, with-init, marked}
 use Rattle.reader_formed.specs.Promise.{Within, Unlike, channel-name, clock-name, location-name}
@@ -25,7 +25,7 @@ use Rattle.reader_formed.specs.Cases.{stored}
 use Rattle.reader_formed.specs.Declared.{slot}
 use Rattle.reader_formed.specs.Slots.{Kind, Known, Differ, one-more, elsewhere, renamed, differ-more}
 use Rattle.reader_formed.specs.Comparisons.{Formed-comparisons}
-use Rattle.reader_formed.specs.Edges.{Assigned, direction-at, label-channel, label-agrees, still-agrees}
+use Rattle.reader_formed.specs.Edges.{direction-at, label-channel, label-agrees, still-agrees}
 use Rattle.limits.specs.Limits.{channel-limit, clock-limit, location-limit, edge-limit}
 
 -- an edge of a text with so many clocks and locations, and with the first `count` of these channels
@@ -36,7 +36,7 @@ pub record Formed-edge (clocks locations count : ℕ) (channels : List Channel) 
   pub direction : T (agrees (e .label) (direction-at channels (channel (e .label) - 1)))
   pub from-one : 0 < channel (e .label)
   pub declared : channel (e .label) ≤ count
-  pub assigned : Assigned clocks (e .resets)
+  pub assigned : Formed-assignments clocks (e .assignments)
 
 -- channel k, from 0, is the label of an edge
 abbrev pub Has-edge : Text → ℕ → Type 0
@@ -188,7 +188,11 @@ module _ (chosen : ℕ) (s : List ℕ) (names : List Name) (t : Text) (h : So-fa
               direction = e .direction;
               from-one = e .from-one;
               declared = e .declared;
-              assigned = λ k q. omega (arith, e .assigned k q);
+              assigned = record {
+                clock = λ k q. omega (arith, e .assigned .clock k q);
+                written = e .assigned .written;
+                allowed = e .assigned .allowed;
+              };
             };
         used = h .read .used;
       };
@@ -332,7 +336,7 @@ module _
       (same : e .label ≡ label-of input k) (below : k < t .«channel_count»)
       (guard : Formed-comparisons (t .«clock_count») false (e .guard))
       (source : e .source < t .«location_count») (target : e .target < t .«location_count»)
-      (assigned : Assigned (t .«clock_count») (e .resets)) where
+      (assigned : Formed-assignments (t .«clock_count») (e .assignments)) where
     number : channel (e .label) ≡ k + 1
     number = rw same (label-channel input k)
 

@@ -16,7 +16,7 @@ use Rattle.reader_record.specs.declared.Text.{Text}
 use Rattle.reader_parts.specs.declared.Status.{Status}
 use Rattle.reader_parts.specs.Status.{take}
 use Rattle.reader_constraints.specs.Constraints.{blank-constraint}
-use Rattle.reader_edges.specs.Assigns.{no-resets}
+use Rattle.reader_edges.specs.Assigns.{no-assignments}
 use Rattle.limits.specs.Limits.{channel-limit, clock-limit, location-limit, edge-limit}
 
 pub record State : Type 0 where
@@ -27,7 +27,13 @@ pub record State : Type 0 where
 -- no edge, and as long as the code's arrays (the `no-edge` of reader_record stands past the end of a list, where an
 -- array inside is empty)
 unfoldable pub blank-edge : Edge
-blank-edge = record { source = 0; target = 0; guard = blank-constraint; label = label.Input 0; resets = no-resets }
+blank-edge = record {
+  source = 0;
+  target = 0;
+  guard = blank-constraint;
+  label = label.Input 0;
+  assignments = no-assignments;
+}
 
 -- a record of which nothing is read; also what stands beside a refusal
 unfoldable pub no-text : Text

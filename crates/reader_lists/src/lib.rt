@@ -70,13 +70,13 @@ fn blank_edge() -> Edge
 {
     let guard = reader_constraints::blank_constraint();
     let label = Label::Input(0);
-    let resets = [false; CLOCK_LIMIT];
+    let assignments = reader_edges::no_assignments();
     Edge {
         source: 0,
         target: 0,
         guard: guard,
         label: label,
-        resets: resets,
+        assignments: assignments,
     }
 }
 

@@ -18,6 +18,14 @@ comparison-size = 3
 abbrev pub constraint-size : ℕ
 constraint-size = 1 + comparison-limit * comparison-size
 
+-- whether it is made, the value and the largest one written
+abbrev pub assignment-size : ℕ
+assignment-size = 3
+
+-- an assignment for each clock
+abbrev pub assignments-size : ℕ
+assignments-size = clock-limit * assignment-size
+
 -- the name, then the direction
 abbrev pub channel-size : ℕ
 channel-size = name-size + 1
@@ -26,18 +34,18 @@ channel-size = name-size + 1
 abbrev pub location-size : ℕ
 location-size = name-size + constraint-size
 
--- an edge: source and target, then from here on its label, its guard and its resets
+-- an edge: source and target, then from here on its label, its guard and its assignments
 abbrev pub label-place : ℕ
 label-place = 2
 
 abbrev pub guard-place : ℕ
 guard-place = label-place + label-size
 
-abbrev pub resets-place : ℕ
-resets-place = guard-place + constraint-size
+abbrev pub assignments-place : ℕ
+assignments-place = guard-place + constraint-size
 
 abbrev pub edge-size : ℕ
-edge-size = resets-place + clock-limit
+edge-size = assignments-place + assignments-size
 
 -- a record: the numbers of channels, clocks and locations, the init location, the numbers of edges and states, then
 -- from here on the channels, the clocks, the locations and the edges
@@ -56,6 +64,6 @@ locations-place = clocks-place + clock-limit * name-size
 abbrev pub edges-place : ℕ
 edges-place = locations-place + location-limit * location-size
 
--- 3,100
+-- 3,868
 abbrev pub record-size : ℕ
 record-size = edges-place + edge-limit * edge-size

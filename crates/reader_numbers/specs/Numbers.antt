@@ -1,6 +1,6 @@
 -- The record of a text as numbers in a fixed order, for callers that have no Rattle types (SPECIFICATION 15.2). Items
 -- past those of the text are its filling.
-use mathlib.Core.Bool.{false, cond}
+use mathlib.Core.Bool.{cond}
 use mathlib.Core.List.{List, [], _∷_, _++_}
 use Prim.Native.Nat.{ℕ, zero, suc, _+_}
 use lib.ListN.{getD, set}
@@ -15,9 +15,10 @@ use Rattle.reader_record.specs.declared.Constraint.{Constraint}
 use Rattle.reader_record.specs.declared.Location.{Location}
 use Rattle.reader_record.specs.declared.Label.{Label}
 use Rattle.reader_record.specs.declared.Label.the-variants as label
+use Rattle.reader_record.specs.declared.Assignment.{Assignment}
 use Rattle.reader_record.specs.declared.Edge.{Edge}
 use Rattle.reader_record.specs.declared.Text.{Text}
-use Rattle.reader_record.specs.Record.{no-name, no-channel, no-location, comparison, edge, channel}
+use Rattle.reader_record.specs.Record.{no-name, no-channel, no-location, no-edge, comparison, assignment, channel}
 use Rattle.limits.specs.Limits.{channel-limit, clock-limit, location-limit, edge-limit, comparison-limit}
 
 -- numbers written one after another from a place on; those past the end are dropped (SPECIFICATION 15.2)
@@ -42,10 +43,6 @@ direction-number direction.Unused = 0
 direction-number direction.Input = 1
 direction-number direction.Output = 2
 
--- 1 where the edge sets the clock to 0
-abbrev pub reset-number : Edge → ℕ → ℕ
-reset-number e k = cond (getD (e .resets) k false) 1 0
-
 -- the direction that the mark says
 unfoldable pub mark : Label → ℕ
 mark (label.Input c) = direction-number direction.Input
@@ -67,6 +64,14 @@ comparison-numbers c = c .clock ∷ sign-number (c .sign) ∷ c .bound ∷ []
 unfoldable pub constraint-numbers : Constraint → List ℕ
 constraint-numbers g = g .count ∷ rows comparison-limit (λ i. comparison-numbers (comparison g i))
 
+-- 1 where it is made, the value and the largest one written (SPECIFICATION 5.4)
+unfoldable pub assignment-numbers : Assignment → List ℕ
+assignment-numbers a = cond (a .made) 1 0 ∷ a .value ∷ a .largest ∷ []
+
+-- the assignments of an edge, one for each clock
+unfoldable pub assignments-numbers : Edge → List ℕ
+assignments-numbers e = rows clock-limit (λ k. assignment-numbers (assignment e k))
+
 -- the name, then the direction
 unfoldable pub channel-numbers : Channel → List ℕ
 channel-numbers k = name-numbers (k .name) ++ direction-number (k .direction) ∷ []
@@ -75,31 +80,30 @@ channel-numbers k = name-numbers (k .name) ++ direction-number (k .direction) �
 unfoldable pub location-numbers : Location → List ℕ
 location-numbers l = name-numbers (l .name) ++ constraint-numbers (l .invariant)
 
--- source, target, label, guard, then the three resets
+-- source, target, label, guard, then the three assignments
 unfoldable pub edge-numbers : Edge → List ℕ
 edge-numbers e =
-    ((e .source ∷ e .target ∷ label-numbers (e .label)) ++ constraint-numbers (e .guard)) ++
-    (reset-number e 0 ∷ reset-number e 1 ∷ reset-number e 2 ∷ [])
+    ((e .source ∷ e .target ∷ label-numbers (e .label)) ++ constraint-numbers (e .guard)) ++ assignments-numbers e
 
 -- channels, clocks, locations, the init location, edges, states
 unfoldable pub counts : Text → ℕ → List ℕ
 counts t states =
     t .«channel_count» ∷ t .«clock_count» ∷ t .«location_count» ∷ t .init ∷ t .«edge_count» ∷ states ∷ []
 
-abbrev pub channel-row : Text → ℕ → List ℕ
-channel-row t i = channel-numbers (getD (t .channels) i no-channel)
+abbrev pub channel-row : List Channel → ℕ → List ℕ
+channel-row channels i = channel-numbers (getD channels i no-channel)
 
-abbrev pub clock-row : Text → ℕ → List ℕ
-clock-row t i = name-numbers (getD (t .clocks) i no-name)
+abbrev pub clock-row : List Name → ℕ → List ℕ
+clock-row clocks i = name-numbers (getD clocks i no-name)
 
-abbrev pub location-row : Text → ℕ → List ℕ
-location-row t i = location-numbers (getD (t .locations) i no-location)
+abbrev pub location-row : List Location → ℕ → List ℕ
+location-row locations i = location-numbers (getD locations i no-location)
 
-abbrev pub edge-row : Text → ℕ → List ℕ
-edge-row t i = edge-numbers (edge t i)
+abbrev pub edge-row : List Edge → ℕ → List ℕ
+edge-row edges i = edge-numbers (getD edges i no-edge)
 
 -- the whole record (SPECIFICATION 15.2): counts, channels, clocks, locations, edges, from the places that Layout says
 unfoldable pub numbers : Text → ℕ → List ℕ
 numbers t states =
-    (((counts t states ++ rows channel-limit (channel-row t)) ++ rows clock-limit (clock-row t)) ++ rows location-limit (location-row t)) ++
-    rows edge-limit (edge-row t)
+    (((counts t states ++ rows channel-limit (channel-row (t .channels))) ++ rows clock-limit (clock-row (t .clocks))) ++ rows location-limit (location-row (t .locations))) ++
+    rows edge-limit (edge-row (t .edges))

@@ -4,6 +4,7 @@ use limits::CLOCK_LIMIT;
 use limits::COMPARISON_LIMIT;
 use limits::EDGE_LIMIT;
 use limits::LOCATION_LIMIT;
+use reader_record::Assignment;
 use reader_record::Channel;
 use reader_record::Comparison;
 use reader_record::Constraint;
@@ -11,6 +12,7 @@ use reader_record::Direction;
 use reader_record::Edge;
 use reader_record::Label;
 use reader_record::Location;
+use reader_record::Name;
 use reader_record::Sign;
 use reader_record::Text;
 ghost use mathlib.Core.Path.{_≡_};
@@ -19,11 +21,12 @@ ghost use mathlib.Core.List.{[], _∷_};
 ghost use Prim.Native.Nat.{_+_, _≤_};
 ghost use Rattle.limits.specs.Limits.{channel-limit, clock-limit, location-limit, edge-limit};
 ghost use Rattle.reader_numbers.specs.Layout.{label-size, comparison-size, constraint-size, channel-size};
-ghost use Rattle.reader_numbers.specs.Layout.{location-size, edge-size, record-size};
+ghost use Rattle.reader_numbers.specs.Layout.{assignment-size, assignments-size, location-size, edge-size, record-size};
 ghost use Rattle.reader_numbers.specs.Layout.{channels-place, clocks-place, locations-place, edges-place};
 ghost use Rattle.reader_numbers.specs.Numbers.{put-at, rows, sign-number, direction-number, label-numbers};
 ghost use Rattle.reader_numbers.specs.Numbers.{comparison-numbers, constraint-numbers, channel-numbers};
-ghost use Rattle.reader_numbers.specs.Numbers.{location-numbers, edge-numbers, numbers};
+ghost use Rattle.reader_numbers.specs.Numbers.{assignment-numbers, assignments-numbers, location-numbers};
+ghost use Rattle.reader_numbers.specs.Numbers.{edge-numbers, numbers};
 ghost use Rattle.reader_numbers.specs.Numbers.{channel-row, clock-row, location-row, edge-row};
 
 // How many numbers each part takes. A name: place and length.
@@ -38,20 +41,26 @@ const COMPARISON_SIZE: usize = 3;
 // A constraint: the number of comparisons, then all that there is room for.
 const CONSTRAINT_SIZE: usize = 1 + COMPARISON_LIMIT * COMPARISON_SIZE;
 
+// An assignment: whether it is made, the value and the largest one written.
+const ASSIGNMENT_SIZE: usize = 3;
+
+// An assignment for each clock.
+const ASSIGNMENTS_SIZE: usize = CLOCK_LIMIT * ASSIGNMENT_SIZE;
+
 // A channel: the name, then the direction.
 const CHANNEL_SIZE: usize = NAME_SIZE + 1;
 
 // A location: the name, then the invariant.
 const LOCATION_SIZE: usize = NAME_SIZE + CONSTRAINT_SIZE;
 
-// An edge: source and target, then from here on its label, its guard and its resets.
+// An edge: source and target, then from here on its label, its guard and its assignments.
 const LABEL_PLACE: usize = 2;
 
 const GUARD_PLACE: usize = LABEL_PLACE + LABEL_SIZE;
 
-const RESETS_PLACE: usize = GUARD_PLACE + CONSTRAINT_SIZE;
+const ASSIGNMENTS_PLACE: usize = GUARD_PLACE + CONSTRAINT_SIZE;
 
-const EDGE_SIZE: usize = RESETS_PLACE + CLOCK_LIMIT;
+const EDGE_SIZE: usize = ASSIGNMENTS_PLACE + ASSIGNMENTS_SIZE;
 
 // A record: the numbers of channels, clocks and locations, the init location, the numbers of edges and states, then
 // from here on the channels, the clocks, the locations and the edges.
@@ -112,7 +121,7 @@ fn direction_number(d: Direction) -> usize
     }
 }
 
-fn reset_number(b: bool) -> usize
+fn made_number(b: bool) -> usize
     ensures { λ r. ⌜ r ≡ cond b 1 0 ⌝ }
 {
     if b {
@@ -180,7 +189,29 @@ fn write_location(out: &mut [usize], at: usize, l: Location)
     write_constraint(out, at + NAME_SIZE, g);
 }
 
-// Source, target, label, guard, then the three resets.
+// 1 where it is made, the value and the largest one written.
+fn write_assignment(out: &mut [usize], at: usize, a: Assignment)
+    requires { ⌜ at + assignment-size ≤ record-size ⌝ }
+    ensures { λ _. ⌜ now (out .exit) ≡ put-at (now (out .entry)) at (assignment-numbers a) ⌝ }
+{
+    let made = made_number(a.made);
+    put_three(out, at, made, a.value as usize, a.largest as usize);
+}
+
+// The assignments of an edge, one for each clock.
+fn write_assignments(out: &mut [usize], at: usize, e: Edge)
+    requires { ⌜ at + assignments-size ≤ record-size ⌝ }
+    ensures { λ _. ⌜ now (out .exit) ≡ put-at (now (out .entry)) at (assignments-numbers e) ⌝ }
+{
+    let mut k: usize = 0;
+    while k < CLOCK_LIMIT {
+        let a = e.assignments[k];
+        write_assignment(out, at + k * ASSIGNMENT_SIZE, a);
+        k += 1;
+    }
+}
+
+// Source, target, label, guard, then the assignments.
 fn write_edge(out: &mut [usize], at: usize, e: Edge)
     requires { ⌜ at + edge-size ≤ record-size ⌝ }
     ensures { λ _. ⌜ now (out .exit) ≡ put-at (now (out .entry)) at (edge-numbers e) ⌝ }
@@ -190,29 +221,26 @@ fn write_edge(out: &mut [usize], at: usize, e: Edge)
     write_label(out, at + LABEL_PLACE, l);
     let g = e.guard;
     write_constraint(out, at + GUARD_PLACE, g);
-    let a = reset_number(e.resets[0]);
-    let b = reset_number(e.resets[1]);
-    let c = reset_number(e.resets[2]);
-    put_three(out, at + RESETS_PLACE, a, b, c);
+    write_assignments(out, at + ASSIGNMENTS_PLACE, e);
 }
 
-fn write_channels(out: &mut [usize], t: Text)
-    ensures { λ _. ⌜ now (out .exit) ≡ put-at (now (out .entry)) channels-place (rows channel-limit (channel-row t)) ⌝ }
+fn write_channels(out: &mut [usize], channels: [Channel; CHANNEL_LIMIT])
+    ensures { λ _. ⌜ now (out .exit) ≡ put-at (now (out .entry)) channels-place (rows channel-limit (channel-row channels)) ⌝ }
 {
     let mut i: usize = 0;
     while i < CHANNEL_LIMIT {
-        let k = t.channels[i];
+        let k = channels[i];
         write_channel(out, CHANNELS_PLACE + i * CHANNEL_SIZE, k);
         i += 1;
     }
 }
 
-fn write_clocks(out: &mut [usize], t: Text)
-    ensures { λ _. ⌜ now (out .exit) ≡ put-at (now (out .entry)) clocks-place (rows clock-limit (clock-row t)) ⌝ }
+fn write_clocks(out: &mut [usize], clocks: [Name; CLOCK_LIMIT])
+    ensures { λ _. ⌜ now (out .exit) ≡ put-at (now (out .entry)) clocks-place (rows clock-limit (clock-row clocks)) ⌝ }
 {
     let mut i: usize = 0;
     while i < CLOCK_LIMIT {
-        let name = t.clocks[i];
+        let name = clocks[i];
         let place = name.place as usize;
         let len = name.len as usize;
         put_two(out, CLOCKS_PLACE + i * NAME_SIZE, place, len);
@@ -220,23 +248,23 @@ fn write_clocks(out: &mut [usize], t: Text)
     }
 }
 
-fn write_locations(out: &mut [usize], t: Text)
-    ensures { λ _. ⌜ now (out .exit) ≡ put-at (now (out .entry)) locations-place (rows location-limit (location-row t)) ⌝ }
+fn write_locations(out: &mut [usize], locations: [Location; LOCATION_LIMIT])
+    ensures { λ _. ⌜ now (out .exit) ≡ put-at (now (out .entry)) locations-place (rows location-limit (location-row locations)) ⌝ }
 {
     let mut i: usize = 0;
     while i < LOCATION_LIMIT {
-        let l = t.locations[i];
+        let l = locations[i];
         write_location(out, LOCATIONS_PLACE + i * LOCATION_SIZE, l);
         i += 1;
     }
 }
 
-fn write_edges(out: &mut [usize], t: Text)
-    ensures { λ _. ⌜ now (out .exit) ≡ put-at (now (out .entry)) edges-place (rows edge-limit (edge-row t)) ⌝ }
+fn write_edges(out: &mut [usize], edges: [Edge; EDGE_LIMIT])
+    ensures { λ _. ⌜ now (out .exit) ≡ put-at (now (out .entry)) edges-place (rows edge-limit (edge-row edges)) ⌝ }
 {
     let mut i: usize = 0;
     while i < EDGE_LIMIT {
-        let e = t.edges[i];
+        let e = edges[i];
         write_edge(out, EDGES_PLACE + i * EDGE_SIZE, e);
         i += 1;
     }
@@ -248,8 +276,12 @@ pub fn write(out: &mut [usize], t: Text, states: usize)
 {
     put_three(out, 0, t.channel_count, t.clock_count, t.location_count);
     put_three(out, INIT_PLACE, t.init, t.edge_count, states);
-    write_channels(out, t);
-    write_clocks(out, t);
-    write_locations(out, t);
-    write_edges(out, t);
+    let channels = t.channels;
+    let clocks = t.clocks;
+    let locations = t.locations;
+    let edges = t.edges;
+    write_channels(out, channels);
+    write_clocks(out, clocks);
+    write_locations(out, locations);
+    write_edges(out, edges);
 }

@@ -5,6 +5,7 @@ use limits::COMPARISON_LIMIT;
 use limits::EDGE_LIMIT;
 use limits::LOCATION_LIMIT;
 use reader::Parsed;
+use reader_record::Assignment;
 use reader_record::Comparison;
 use reader_record::Constraint;
 use reader_record::Direction;
@@ -141,18 +142,22 @@ fn location(t: Text, i: usize) {
     io::write_all(1, b"\n");
 }
 
-fn reset(set: bool, clock: usize) {
-    if set {
-        io::write_all(1, b" reset");
+// A clock that is assigned, its value and the largest one written.
+fn assignment(a: Assignment, clock: usize) {
+    if a.made {
+        io::write_all(1, b" assign");
         put(clock);
+        put(a.value as usize);
+        put(a.largest as usize);
     }
 }
 
-// Which of the clocks an edge sets to 0.
-fn resets(all: [bool; CLOCK_LIMIT]) {
+// What an edge does to the clocks.
+fn assignments(all: [Assignment; CLOCK_LIMIT]) {
     let mut i = 0;
     while i < CLOCK_LIMIT {
-        reset(all[i], i);
+        let a = all[i];
+        assignment(a, i);
         i += 1;
     }
 }
@@ -172,8 +177,8 @@ fn edge(t: Text, i: usize) {
     label(l);
     let g = e.guard;
     constraint(g);
-    let r = e.resets;
-    resets(r);
+    let a = e.assignments;
+    assignments(a);
     io::write_all(1, b"\n");
 }
 

@@ -3,6 +3,7 @@
 -- (SPECIFICATION 3.6, 5.1).
 use mathlib.Core.Path.{_≡_}
 use mathlib.Core.Bool.{Bool, true, false}
+use mathlib.Core.List.{List}
 use Prim.Native.Nat.{ℕ, _≤_, _<_}
 use lib.Dec.{T, ltb}
 use lib.ListN.{getD}
@@ -13,8 +14,9 @@ use Rattle.reader_record.specs.declared.Label.the-variants.{Input, Outpu
 use Rattle.reader_record.specs.declared.Sign.{Sign}
 use Rattle.reader_record.specs.declared.Sign.the-variants.{AtMost, AtLeast, Equal, Less, Greater}
 use Rattle.reader_record.specs.declared.Constraint.{Constraint}
+use Rattle.reader_record.specs.declared.Assignment.{Assignment}
 use Rattle.reader_record.specs.declared.Text.{Text}
-use Rattle.reader_record.specs.Record.{direction-of, comparison, edge, invariant-of, channel}
+use Rattle.reader_record.specs.Record.{no-assignment, direction-of, comparison, edge, invariant-of, channel}
 use Rattle.limits.specs.Limits.{channel-limit, clock-limit, location-limit, edge-limit, comparison-limit, largest-constant}
 
 -- the mark of a label is that of the channel's direction (SPECIFICATION 3.6)
@@ -40,6 +42,13 @@ pub record Formed-constraint (clocks : ℕ) (g : Constraint) : Type 0 where
   pub clock : (i : ℕ) → i < g .count → comparison g i .clock < clocks
   pub bound : (i : ℕ) → i < g .count → comparison g i .bound ≤ largest-constant
 
+-- the assignments of an edge in a text with so many clocks: declared clocks alone are assigned (SPECIFICATION 3.5), to
+-- values that are written, and those are allowed constants (SPECIFICATION 4.3, 5.4)
+pub record Formed-assignments (clocks : ℕ) (all : List Assignment) : Type 0 where
+  pub clock : (k : ℕ) → getD all k no-assignment .made ≡ true → k < clocks
+  pub written : (k : ℕ) → getD all k no-assignment .value ≤ getD all k no-assignment .largest
+  pub allowed : (k : ℕ) → getD all k no-assignment .largest ≤ largest-constant
+
 pub record Well-formed (t : Text) : Type 0 where
   -- the limits (SPECIFICATION 4.3)
   pub channels : t .«channel_count» ≤ channel-limit
@@ -62,8 +71,8 @@ pub record Well-formed (t : Text) : Type 0 where
       (agrees (edge t i .label) (direction-of t (channel (edge t i .label))))
   pub label : (i : ℕ) → i < t .«edge_count» → (0 < channel (edge t i .label))
       × (channel (edge t i .label) ≤ t .«channel_count»)
-  -- an edge assigns declared clocks alone (SPECIFICATION 3.5)
-  pub assigned : (i k : ℕ) → i < t .«edge_count» → getD (edge t i .resets) k false ≡ true → k < t .«clock_count»
+  -- an edge assigns allowed constants to declared clocks
+  pub assigned : (i : ℕ) → i < t .«edge_count» → Formed-assignments (t .«clock_count») (edge t i .assignments)
   -- a declared channel that has a direction is the label of an edge (SPECIFICATION 5.1)
   pub used : (c : ℕ) → 0 < c → c ≤ t .«channel_count» → (direction-of t c ≡ Unused → ⊥)
       → (i : ℕ) × (i < t .«edge_count») × (channel (edge t i .label) ≡ c)

@@ -4,6 +4,8 @@ use limits::CLOCK_LIMIT;
 use limits::COMPARISON_LIMIT;
 use limits::EDGE_LIMIT;
 use limits::LOCATION_LIMIT;
+ghost use mathlib.Core.Path.{_≡_};
+ghost use Rattle.reader_record.specs.Record.{no-assignment};
 
 // A name, by the bytes of its declaration (SPECIFICATION 5.2). Names are kept in a table that is passed by value: so a
 // name is in four bytes, which the limits on the bytes of a text and of a name allow.
@@ -58,14 +60,33 @@ pub enum Label {
     Output(u8),
 }
 
-// An edge (SPECIFICATION 5.1). Source and target are locations by their number from 0; `resets` has the clocks that the
-// edge sets to 0.
+// What an edge does to a clock (SPECIFICATION 5.4): whether it assigns the clock, the value that it assigns, which is
+// that of the last assignment, and the largest value that is written, in ticks.
+pub struct Assignment {
+    pub made: bool,
+    pub value: u16,
+    pub largest: u16,
+}
+
+// A clock that is not assigned.
+pub fn no_assignment() -> Assignment
+    ensures { λ r. ⌜ r ≡ no-assignment ⌝ }
+{
+    Assignment {
+        made: false,
+        value: 0,
+        largest: 0,
+    }
+}
+
+// An edge (SPECIFICATION 5.1). Source and target are locations by their number from 0; `assignments` has one for each
+// clock.
 pub struct Edge {
     pub source: u8,
     pub target: u8,
     pub guard: Constraint,
     pub label: Label,
-    pub resets: [bool; CLOCK_LIMIT],
+    pub assignments: [Assignment; CLOCK_LIMIT],
 }
 
 // The whole record (SPECIFICATION 5.1). The first `.._count` items of each list are those of the text, in its order

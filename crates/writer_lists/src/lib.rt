@@ -11,8 +11,7 @@ use writer_tokens::put_named;
 use writer_tokens::put_token;
 ghost use Prim.Native.Nat.{_≤_, _<_};
 ghost use Rattle.limits.specs.Limits.{channel-limit};
-ghost use Rattle.reader_record.specs.Record.{edge};
-ghost use Rattle.written.specs.Written.{location-tokens, edge-tokens};
+ghost use Rattle.written.specs.Written.{location-tokens};
 ghost use Rattle.written.specs.Written.{channel-list, clock-list, location-list, edge-list};
 ghost use Rattle.writer_tokens.specs.Tokens.{Puts-tokens};
 ghost use Rattle.written_names.specs.Inside.{names-in, Names-inside};
@@ -93,18 +92,6 @@ pub fn put_locations(out: &mut [u8], at: usize, u: usize, t: Text) -> usize
     put_token(out, place, b";")
 }
 
-// Edge i.
-fn put_edge_at(out: &mut [u8], at: usize, s: &[u8], u: usize, t: Text, i: usize) -> usize
-    requires { ⌜ Text-within (now s) t × (i < t .«edge_count») ⌝ }
-    ensures { λ r. ⌜ Puts-tokens (now (out .entry)) at
-        (edge-tokens (names-in (now (s .entry)) (t .channels) (t .«channel_count»)) u (t .«clock_count») (edge t i))
-        (now (out .exit)) r ⌝ }
-{
-    let channels = t.channels;
-    let e = t.edges[i];
-    put_edge(out, at, s, channels, t.channel_count, u, t.clock_count, e)
-}
-
 // The edges.
 pub fn put_edges(out: &mut [u8], at: usize, s: &[u8], u: usize, t: Text) -> usize
     requires { ⌜ Text-within (now s) t ⌝ }
@@ -115,12 +102,17 @@ pub fn put_edges(out: &mut [u8], at: usize, s: &[u8], u: usize, t: Text) -> usiz
     if count == 0 {
         return at;
     }
+    let channels = t.channels;
+    let declared = t.channel_count;
+    let clocks = t.clock_count;
     let start = put_token(out, at, b"trans");
-    let mut place = put_edge_at(out, start, s, u, t, 0);
+    let first = t.edges[0];
+    let mut place = put_edge(out, start, s, channels, declared, u, clocks, first);
     let mut i: usize = 1;
     while i < count {
         let comma = put_token(out, place, b",");
-        place = put_edge_at(out, comma, s, u, t, i);
+        let e = t.edges[i];
+        place = put_edge(out, comma, s, channels, declared, u, clocks, e);
         i += 1;
     }
     put_token(out, place, b";")

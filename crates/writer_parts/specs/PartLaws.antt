@@ -1,4 +1,4 @@
--- Names of channels, and resets clock by clock.
+-- Names of channels, and assignments clock by clock.
 use mathlib.Core.Path.{_≡_, refl, sym, ap, _∙_}
 use mathlib.Core.Bool.{Bool, true, false, cond, _||_}
 use mathlib.Core.List.{List, [], _∷_, _++_}
@@ -9,12 +9,14 @@ use native.Mathlib.Omega.{arith}
 use lib.ListN.{getD}
 use Rattle.bitmaps.specs.BitLaws.{tab-at}
 use Rattle.reader_tokens.specs.Scan.{bytes}
+use Rattle.reader_record.specs.Record.{no-assignment}
 use Rattle.reader_record.specs.declared.Channel.{Channel}
+use Rattle.reader_record.specs.declared.Assignment.{Assignment}
 use Rattle.pairing.specs.Channels.{spelling}
 use Rattle.written.specs.Spaced.{part-tokens, later-items}
-use Rattle.written.specs.Written.{reset-clocks, resets-tokens}
+use Rattle.written.specs.Written.{assigned-clocks, assignment-tokens, assignments-tokens}
 use Rattle.written_names.specs.Inside.{name-at, names-in}
-use Rattle.writer_parts.specs.Parts.{reset-step, reset-items, resets-left}
+use Rattle.writer_parts.specs.Parts.{assignment-step, assignment-items, assignments-left}
 
 pub name-in :
     (s : List ℕ) (channels : List Channel) (count i : ℕ) → i < count
@@ -24,37 +26,39 @@ name-in s channels count i h =
     sym (tab-at (λ k. spelling s (name-at channels k)) [] 0 count i h
     ∙ ap (λ (k : ℕ). spelling s (name-at channels k)) (zero-add i))
 
--- one clock's reset, and those after it
+-- one clock's assignment, and those after it
 items-step :
-    (u i : ℕ) (clocks : List ℕ) (some reset : Bool)
-    → reset-items some u (cond reset (i ∷ clocks) clocks)
-    ≡ reset-step reset some u i ++ reset-items (some || reset) u clocks
-unfolding reset-items reset-step part-tokens later-items
-items-step u i clocks false false = refl
-items-step u i clocks true false = refl
-items-step u i clocks false true = refl
-items-step u i clocks true true = refl
+    (u i : ℕ) (all : List Assignment) (clocks : List ℕ) (some made : Bool) → getD all i no-assignment .made ≡ made
+    → assignment-items some u all (cond made (i ∷ clocks) clocks)
+    ≡ assignment-step (getD all i no-assignment) some u i ++ assignment-items (some || made) u all clocks
+unfolding assignment-items assignment-step assignment-tokens part-tokens later-items
+items-step u i all clocks false false e = rw e
+items-step u i all clocks true false e = rw e
+items-step u i all clocks false true e = rw e
+items-step u i all clocks true true e = rw e
 
-module _ (u : ℕ) (resets : List Bool) (n i : ℕ) where
-  pub resets-more :
+module _ (u : ℕ) (all : List Assignment) (n i : ℕ) where
+  pub assignments-more :
       (some : Bool) → i < n
-      → resets-left some u resets n i
-      ≡ reset-step (getD resets i false) some u i
-      ++ resets-left (some || getD resets i false) u resets n (i + 1)
-  unfolding resets-left reset-clocks
-  resets-more some h =
+      → assignments-left some u all n i
+      ≡ assignment-step (getD all i no-assignment) some u i
+      ++ assignments-left (some || getD all i no-assignment .made) u all n (i + 1)
+  unfolding assignments-left assigned-clocks
+  assignments-more some h =
       let e : n - i ≡ suc (n - (i + 1)) = omega arith in
-      rw (e, add-one i) (items-step u i (reset-clocks resets (suc i) (n - (suc i))) some (getD resets i false))
+      rw (e, add-one i) (items-step u i all (assigned-clocks all (suc i) (n - (suc i))) some
+      (getD all i no-assignment .made) refl)
 
-  pub resets-none : n ≤ i → resets-left false u resets n i ≡ []
-  unfolding resets-left reset-items reset-clocks part-tokens
-  resets-none h = let e : n - i ≡ 0 = omega arith in rw e
+  pub assignments-none : n ≤ i → assignments-left false u all n i ≡ []
+  unfolding assignments-left assignment-items assigned-clocks part-tokens
+  assignments-none h = let e : n - i ≡ 0 = omega arith in rw e
 
-  pub resets-end : n ≤ i → resets-left true u resets n i ≡ bytes ";" ∷ []
-  unfolding resets-left reset-items reset-clocks later-items
-  resets-end h = let e : n - i ≡ 0 = omega arith in rw e
+  pub assignments-end : n ≤ i → assignments-left true u all n i ≡ bytes ";" ∷ []
+  unfolding assignments-left assignment-items assigned-clocks later-items
+  assignments-end h = let e : n - i ≡ 0 = omega arith in rw e
 
-pub resets-all :
-    (u clocks : ℕ) (resets : List Bool) → resets-tokens u clocks resets ≡ resets-left false u resets clocks 0
-unfolding resets-left reset-items resets-tokens
-resets-all u clocks resets = let e : clocks - 0 ≡ clocks = omega arith in rw e
+pub assignments-all :
+    (u clocks : ℕ) (all : List Assignment)
+    → assignments-tokens u clocks all ≡ assignments-left false u all clocks 0
+unfolding assignments-left assignment-items assignments-tokens
+assignments-all u clocks all = let e : clocks - 0 ≡ clocks = omega arith in rw e

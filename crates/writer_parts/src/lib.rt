@@ -1,7 +1,8 @@
-// The parts of a text put into a slice (SPECIFICATION 18.7): comparisons, constraints, locations, labels, resets and
-// edges. Each function puts tokens at a place and returns the place behind them.
+// The parts of a text put into a slice (SPECIFICATION 18.7): comparisons, constraints, locations, labels,
+// assignments and edges. Each function puts tokens at a place and returns the place behind them.
 use limits::CHANNEL_LIMIT;
 use limits::CLOCK_LIMIT;
+use reader_record::Assignment;
 use reader_record::Channel;
 use reader_record::Comparison;
 use reader_record::Constraint;
@@ -22,13 +23,10 @@ ghost use lib.ListN.{getD};
 ghost use Rattle.limits.specs.Limits.{channel-limit, clock-limit, comparison-limit};
 ghost use Rattle.reader_record.specs.Record.{channel};
 ghost use Rattle.written.specs.Written.{sign-bytes, comparison-tokens, constraint-tokens, mark-bytes, label-tokens};
-ghost use Rattle.written.specs.Written.{resets-tokens, edge-tokens};
+ghost use Rattle.written.specs.Written.{assignments-tokens, edge-tokens};
 ghost use Rattle.writer_tokens.specs.Tokens.{Puts-tokens};
 ghost use Rattle.written_names.specs.Inside.{names-in, Names-inside};
-ghost use Rattle.writer_parts.specs.Parts.{located, lead, reset-step, arrow, Edge-within};
-
-// What a reset sets a clock to.
-const START: usize = 0;
+ghost use Rattle.writer_parts.specs.Parts.{located, lead, assignment-step, arrow, Edge-within};
 
 fn put_sign(out: &mut [u8], at: usize, sign: Sign) -> usize
     ensures { λ r. ⌜ Puts-tokens (now (out .entry)) at (sign-bytes sign ∷ []) (now (out .exit)) r ⌝ }
@@ -156,7 +154,7 @@ fn either(a: bool, b: bool) -> bool
     b
 }
 
-// What opens the resets, or what joins one to those before it.
+// What opens the assignments, or what joins one to those before it.
 fn put_lead(out: &mut [u8], at: usize, some: bool) -> usize
     ensures { λ r. ⌜ Puts-tokens (now (out .entry)) at (lead some ∷ []) (now (out .exit)) r ⌝ }
 {
@@ -166,37 +164,37 @@ fn put_lead(out: &mut [u8], at: usize, some: bool) -> usize
     put_token(out, at, b"assign")
 }
 
-// The reset of clock i, if there is one; `some` says that one was put before it.
-fn put_reset(out: &mut [u8], at: usize, u: usize, i: usize, reset: bool, some: bool) -> usize
-    ensures { λ r. ⌜ Puts-tokens (now (out .entry)) at (reset-step reset some u i) (now (out .exit)) r ⌝ }
+// The assignment of clock i, if it is made; `some` says that one was put before it.
+fn put_assignment(out: &mut [u8], at: usize, u: usize, i: usize, a: Assignment, some: bool) -> usize
+    ensures { λ r. ⌜ Puts-tokens (now (out .entry)) at (assignment-step a some u i) (now (out .exit)) r ⌝ }
 {
-    if !reset {
+    if !a.made {
         return at;
     }
     let start = put_lead(out, at, some);
     let clock = put_named(out, start, CLOCK, u, i);
     let sign = put_token(out, clock, b"=");
-    put_decimal(out, sign, START)
+    put_decimal(out, sign, a.value as usize)
 }
 
-// The resets of the first so many clocks; nothing where there is none.
-fn put_resets(
+// The assignments of the first so many clocks; nothing where there is none.
+fn put_assignments(
     out: &mut [u8],
     at: usize,
     u: usize,
     clocks: usize,
-    resets: [bool; CLOCK_LIMIT],
+    all: [Assignment; CLOCK_LIMIT],
 ) -> usize
     requires { ⌜ clocks ≤ clock-limit ⌝ }
-    ensures { λ r. ⌜ Puts-tokens (now (out .entry)) at (resets-tokens u clocks resets) (now (out .exit)) r ⌝ }
+    ensures { λ r. ⌜ Puts-tokens (now (out .entry)) at (assignments-tokens u clocks all) (now (out .exit)) r ⌝ }
 {
     let mut place = at;
     let mut some = false;
     let mut i: usize = 0;
     while i < clocks {
-        let reset = resets[i];
-        place = put_reset(out, place, u, i, reset, some);
-        some = either(some, reset);
+        let a = all[i];
+        place = put_assignment(out, place, u, i, a, some);
+        some = either(some, a.made);
         i += 1;
     }
     if some {
@@ -235,7 +233,7 @@ pub fn put_edge(
     let guard = put_constraint(out, start, u, g, b"guard", b";");
     let l = e.label;
     let label = put_label(out, guard, s, channels, count, l);
-    let resets = e.resets;
-    let end = put_resets(out, label, u, clocks, resets);
+    let all = e.assignments;
+    let end = put_assignments(out, label, u, clocks, all);
     put_token(out, end, b"}")
 }

@@ -23,14 +23,15 @@ use Rattle.reader_edges.specs.Labels.{fits, label-next}
 use Rattle.reader_edges.specs.Assigns.{assigns as assigns-next}
 use Rattle.reader_edges.specs.Edges.{edge-next}
 use Rattle.written.specs.Spaced.{Tokens}
-use Rattle.written.specs.Written.{clock-called, location-called, constraint-tokens, label-tokens, resets-tokens, edge-tokens}
+use Rattle.written.specs.Written.{clock-called, location-called, constraint-tokens, label-tokens, assignments-tokens, edge-tokens}
+use Rattle.written.specs.Good.{Allowed-values}
 use Rattle.written.specs.Words.{sync-fine, closes-fine, opens-fine, arrow-fine}
 use Rattle.written.specs.Steps.{Before-tokens, at, taken}
 use Rattle.written.specs.Slots.{Uses}
 use Rattle.written.specs.Constraints.{Kind-known, known-used, Constraint-reads, guard-read}
 use Rattle.written.specs.Same.{is-input-label, Same-edge}
 use Rattle.written.specs.Labels.{Label-reads, label-read}
-use Rattle.written.specs.Assigns.{Resets-read, resets-read}
+use Rattle.written.specs.Assigns.{Assignments-read, assignments-read}
 
 -- the names that edges use are declared
 pub record Names-known (s : List ℕ) (names : List Name) (words : List (List ℕ))
@@ -49,6 +50,7 @@ pub record Edge-formed (channels clocks locations : ℕ) (e : Edge) : Type 0 whe
   pub guard-formed : Formed-constraint clocks (e .guard)
   pub some : 0 < channel (e .label)
   pub declared : channel (e .label) ≤ channels
+  pub allowed : Allowed-values clocks (e .assignments)
 
 pub record Edge-reads (s : List ℕ) (ws : Tokens) (clocks : ℕ) (e : Edge) (r : EdgeRead) : Type 0 where
   pub before : Before-tokens s ws (r .status)
@@ -64,7 +66,7 @@ pub edge-tokens-read : {s : List ℕ} {names : List Name} (words : List (List �
     → Edge-reads s ws clocks e (edge-next shortest-tick s st names uses false)
 unfolding edge-tokens edge-next label-tokens
 edge-tokens-read {s} {names} words u {channels} {clocks} {locations} known e formed uses right {ws} {st} b =
-    let end : Tokens = resets-tokens u clocks (e .resets) ++ (bytes "}" ∷ ws) in
+    let end : Tokens = assignments-tokens u clocks (e .assignments) ++ (bytes "}" ∷ ws) in
     let inside : Tokens =
     constraint-tokens (bytes "guard") (bytes ";") u (e .guard) ++ (label-tokens words (e .label) ++ end) in
     let shaped : Before-tokens s
@@ -87,11 +89,13 @@ edge-tokens-read {s} {names} words u {channels} {clocks} {locations} known e for
     label-read words (known .channel-names) (known .few-channels) (e .label) (formed .some)
     (formed .declared) uses right
     (guarded .before) in
-    let reset : Resets-read s (bytes "}" ∷ ws) clocks (e .resets)
-    (assigns-next s (label-next s (guard shortest-tick s open-brace names .status) names uses .status) names) =
-    resets-read u (known .clock-names) (known .few-clocks) (e .resets) closes-fine refl (named .before) in
+    let assigned : Assignments-read s (bytes "}" ∷ ws) clocks (e .assignments)
+    (assigns-next shortest-tick s
+    (label-next s (guard shortest-tick s open-brace names .status) names uses .status) names) =
+    assignments-read u (known .clock-names) (known .few-clocks) (e .assignments) (formed .allowed) closes-fine refl
+    (named .before) in
     record {
-      before = taken closes-fine (reset .before);
+      before = taken closes-fine (assigned .before);
       channel-is = named .channel-is;
       input-is = named .input-is;
       same = record {
@@ -99,7 +103,7 @@ edge-tokens-read {s} {names} words u {channels} {clocks} {locations} known e for
         target = target .number-is;
         guard = guarded .same;
         label = named .is;
-        resets = reset .same;
-        no-more = reset .no-more;
+        assignments = assigned .same;
+        no-more = assigned .no-more;
       };
     }

@@ -1,6 +1,6 @@
 -- A record and the very bytes that are written for it: a channel is called `l0`, so one underscore stands before names.
 use mathlib.Core.Path.{_≡_, refl, ap}
-use mathlib.Core.Bool.{true, false}
+use mathlib.Core.Bool.{true}
 use mathlib.Core.List.{List, [], _∷_, _++_}
 use Prim.Native.Nat.{ℕ, zero, suc, _≤_, _<_}
 use native.Mathlib.Omega.{arith}
@@ -9,7 +9,7 @@ use lib.ListN.{getD}
 use Rattle.reader_tokens.specs.Scan.{bytes, is-letter, is-digit, is-part, run, agree, same}
 use Rattle.reader_tokens.specs.Tokens.{words, word-from, word-kind}
 use Rattle.limits.specs.Limits.{shortest-tick, largest-constant}
-use Rattle.reader_record.specs.Record.{no-name, no-constraint, channel, comparison, edge, invariant-of}
+use Rattle.reader_record.specs.Record.{no-name, no-constraint, no-assignment, channel, comparison, assignment, edge, invariant-of}
 use Rattle.reader_record.specs.Formed.{in-invariant, Formed-constraint}
 use Rattle.reader_record.specs.declared.Direction.the-variants as direction
 use Rattle.reader_record.specs.declared.Sign.the-variants.{AtMost, AtLeast, Equal}
@@ -18,9 +18,9 @@ use Rattle.reader_record.specs.declared.Text.{Text}
 use Rattle.systems.specs.Tests.{any, least}
 use Rattle.byte_slices.specs.Decimal.{digit, digits, decimal}
 use Rattle.written.specs.Spaced.{after-token, spaced-tokens, later-items, part-tokens, numbered-items}
-use Rattle.written.specs.Written.{called, sign-bytes, comparison-tokens, constraint-tokens, location-tokens, mark-bytes, label-tokens, reset-clocks, assignment-tokens, resets-tokens, edge-tokens, list-tokens, channel-list, clock-list, location-list, edge-list, text-tokens, written-with}
+use Rattle.written.specs.Written.{called, sign-bytes, comparison-tokens, constraint-tokens, location-tokens, mark-bytes, label-tokens, assigned-clocks, assignment-tokens, assignments-tokens, edge-tokens, list-tokens, channel-list, clock-list, location-list, edge-list, text-tokens, written-with}
 use Rattle.reader.specs.Reading.{read-text}
-use Rattle.written.specs.Good.{Is-name, Channel-names, Readable}
+use Rattle.written.specs.Good.{Is-name, Channel-names, Allowed-values, Readable}
 use Rattle.written.specs.Same.{is-input-label, Read-back}
 use Rattle.written.specs.Whole.{written-text-read}
 use Rattle.written.specs.Underscores.{is-channel-name, clashes, underscores, underscores-of, written-text}
@@ -53,9 +53,16 @@ example = record {
           count = 2;
         };
         label = Input 1;
-        resets = true ∷ true ∷ [];
+        assignments =
+            record { made = true; value = 0; largest = 9 } ∷ record { made = true; value = 7; largest = 7 } ∷ [];
       }
-      ∷ record { source = 1; target = 0; guard = no-constraint; label = Output 2; resets = false ∷ false ∷ [] }
+      ∷ record {
+        source = 1;
+        target = 0;
+        guard = no-constraint;
+        label = Output 2;
+        assignments = no-assignment ∷ no-assignment ∷ [];
+      }
       ∷ [];
   «edge_count» = 2;
 }
@@ -66,12 +73,12 @@ example-channels = bytes "go" ∷ bytes "l0" ∷ []
 
 pub example-written : written-text example-channels example
     ≡ bytes "broadcast chan go , l0 ; process _p0 ( ) { clock _c0 , _c1 ; state _l0 { _c0 <= 15 } , _l1 ; init _l0 ; "
-    ++ (bytes "trans _l0 -> _l1 { guard _c0 >= 2 && _c1 == 0 ; sync go ? ; assign _c0 = 0 , _c1 = 0 ; } , "
+    ++ (bytes "trans _l0 -> _l1 { guard _c0 >= 2 && _c1 == 0 ; sync go ? ; assign _c0 = 0 , _c1 = 7 ; } , "
     ++ bytes "_l1 -> _l0 { sync l0 ! ; } ; } system _p0 ;\n")
 unfolding example channel agree same any least digit digits decimal after-token spaced-tokens later-items part-tokens
     numbered-items called sign-bytes comparison-tokens constraint-tokens location-tokens mark-bytes label-tokens
-    reset-clocks assignment-tokens resets-tokens edge-tokens list-tokens channel-list clock-list location-list edge-list
-    text-tokens written-with is-channel-name clashes underscores underscores-of written-text
+    assigned-clocks assignment-tokens assignments-tokens edge-tokens list-tokens channel-list clock-list location-list
+    edge-list text-tokens written-with is-channel-name clashes underscores underscores-of written-text
 example-written = refl
 
 -- one or two items
@@ -115,6 +122,12 @@ formed-guard = two (λ i. Formed-constraint 2 (edge example i .guard))
       bound = none (λ i. comparison (edge example 1 .guard) i .bound ≤ largest-constant);
     })
 
+formed-values : (i : ℕ) → i < 2 → Allowed-values 2 (edge example i .assignments)
+unfolding example
+formed-values = two (λ i. Allowed-values 2 (edge example i .assignments))
+    (two (λ k. assignment (edge example 0) k .value ≤ largest-constant) (omega arith) (omega arith))
+    (two (λ k. assignment (edge example 1) k .value ≤ largest-constant) (omega arith) (omega arith))
+
 formed-sign :
     (l i : ℕ) → l < 2 → i < invariant-of example l .count
     → T (in-invariant (comparison (invariant-of example l) i .sign) (comparison (invariant-of example l) i .bound))
@@ -139,6 +152,7 @@ example-readable = record {
   target = two (λ i. edge example i .target < 2) (omega arith) (omega arith);
   label = two (λ i. (0 < channel (edge example i .label)) × (channel (edge example i .label) ≤ 2))
       (omega arith, omega arith) (omega arith, omega arith);
+  assigned = formed-values;
   one-mark = one-mark;
 }
   where

@@ -9,9 +9,10 @@ use lib.ListN.{length, getD}
 use Rattle.reader_tokens.specs.Kinds as kinds
 use Rattle.reader_tokens.specs.Scan.{is-letter, is-part, run}
 use Rattle.reader_tokens.specs.Tokens.{word-kind}
-use Rattle.limits.specs.Limits.{largest-name, channel-limit, clock-limit, location-limit, edge-limit}
-use Rattle.reader_record.specs.Record.{comparison, edge, invariant-of, channel}
+use Rattle.limits.specs.Limits.{largest-name, channel-limit, clock-limit, location-limit, edge-limit, largest-constant}
+use Rattle.reader_record.specs.Record.{no-assignment, comparison, edge, invariant-of, channel}
 use Rattle.reader_record.specs.Formed.{in-invariant, Formed-constraint}
+use Rattle.reader_record.specs.declared.Assignment.{Assignment}
 use Rattle.reader_record.specs.declared.Text.{Text}
 use Rattle.written.specs.Written.{called}
 use Rattle.written.specs.Same.{is-input-label}
@@ -41,6 +42,10 @@ pub record Good-names (names : List (List ℕ)) (u channels clocks locations : �
   pub apart : (i j : ℕ) (letter : Char) → i < channels → Written-name clocks locations letter j
       → getD names i [] ≡ called letter u j → ⊥
 
+-- the values assigned to the first so many clocks are allowed constants (SPECIFICATION 4.3)
+abbrev pub Allowed-values : ℕ → List Assignment → Type 0
+Allowed-values clocks all = (k : ℕ) → k < clocks → getD all k no-assignment .value ≤ largest-constant
+
 -- a record that is read back from its text: what a text can say of a well-formed record (SPECIFICATION 3, 4.3). The
 -- directions of its channels and what stands past its counts are not written, so nothing is asked of them
 pub record Readable (t : Text) : Type 0 where
@@ -57,6 +62,7 @@ pub record Readable (t : Text) : Type 0 where
   pub target : (i : ℕ) → i < t .«edge_count» → edge t i .target < t .«location_count»
   pub label : (i : ℕ) → i < t .«edge_count» → (0 < channel (edge t i .label))
       × (channel (edge t i .label) ≤ t .«channel_count»)
+  pub assigned : (i : ℕ) → i < t .«edge_count» → Allowed-values (t .«clock_count») (edge t i .assignments)
   -- a channel has one mark (SPECIFICATION 3.6)
   pub one-mark : (i j : ℕ) → i < t .«edge_count» → j < t .«edge_count»
       → channel (edge t i .label) ≡ channel (edge t j .label)

@@ -263,6 +263,7 @@ module _ {s : List ℕ} {words : List (List ℕ)} {u : ℕ} {t : Text} (good : G
           guard-formed = formed .guard i h;
           some = some;
           declared = there;
+          allowed = formed .assigned i h;
         })
         (r .text .channels) (rw (uses .direction-is (channel a - 1) k) (fits-before t formed i (omega arith) i h))
         (b .before) in

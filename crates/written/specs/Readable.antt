@@ -1,5 +1,6 @@
 -- A well-formed record is `Readable`: it is read back from its text.
 use mathlib.Core.Path.{_≡_, refl}
+use native.Mathlib.Omega.{arith}
 use lib.Dec.{T}
 use Rattle.reader_record.specs.Record.{edge, channel, direction-of}
 use Rattle.reader_record.specs.Formed.{Well-formed, agrees}
@@ -36,6 +37,7 @@ formed-readable t f = record {
   source = f .source;
   target = f .target;
   label = f .label;
+  assigned = λ i h k l. omega (arith, f .assigned i h .written k, f .assigned i h .allowed k);
   one-mark = λ i j h l e.
       let x : T (agrees (edge t i .label) (direction-of t (channel (edge t j .label)))) = rw e at (f .direction i h) in
       same-mark (edge t i .label) (edge t j .label) (direction-of t (channel (edge t j .label))) x (f .direction j l);

@@ -5,7 +5,7 @@ use mathlib.Core.List.{List, [], _++_}
 use Prim.Native.Nat.{ℕ, zero, suc, _-_, _≤_, _<_}
 use lib.Dec.{eqb}
 use lib.ListN.{length, drop, getD}
-use Rattle.reader_record.specs.Record.{no-channel, no-name, no-location, comparison, edge, invariant-of, channel}
+use Rattle.reader_record.specs.Record.{no-channel, no-name, no-location, no-assignment, comparison, written-once, assignment, edge, invariant-of, channel}
 use Rattle.reader_record.specs.declared.Name.{Name}
 use Rattle.reader_record.specs.declared.Direction.{Direction}
 use Rattle.reader_record.specs.declared.Direction.the-variants as direction
@@ -51,8 +51,9 @@ pub record Same-edge (clocks : ℕ) (e f : Edge) : Type 0 where
   pub target : f .target ≡ e .target
   pub guard : Same-constraint (e .guard) (f .guard)
   pub label : f .label ≡ e .label
-  pub resets : (i : ℕ) → i < clocks → getD (f .resets) i false ≡ getD (e .resets) i false
-  pub no-more : (i : ℕ) → clocks ≤ i → getD (f .resets) i false ≡ false
+  -- each assignment is written once, with its value
+  pub assignments : (i : ℕ) → i < clocks → assignment f i ≡ written-once (assignment e i)
+  pub no-more : (i : ℕ) → clocks ≤ i → assignment f i ≡ no-assignment
 
 -- x is the record t, read from the text s: the names are those that are written, and a channel has the direction in
 -- which the edges use it

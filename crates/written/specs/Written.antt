@@ -1,19 +1,20 @@
 -- The text that is written for a record, whose channels have those names and whose other names stand behind so many
 -- underscores (SPECIFICATION 18.6, 18.7). Its parts and their order are those of the grammar (SPECIFICATION 3.1).
-use mathlib.Core.Bool.{Bool, false, cond}
+use mathlib.Core.Bool.{cond}
 use mathlib.Core.List.{List, [], _∷_, _++_, map}
 use Prim.Native.Nat.{ℕ, zero, suc, _-_}
 use Prim.Native.Char.{Char, code}
 use lib.ListN.{getD, replicate}
 use Rattle.byte_slices.specs.Decimal.{decimal}
 use Rattle.reader_tokens.specs.Scan.{bytes}
-use Rattle.reader_record.specs.Record.{edge, invariant-of, comparison, channel}
+use Rattle.reader_record.specs.Record.{no-assignment, edge, invariant-of, comparison, channel}
 use Rattle.reader_record.specs.declared.Sign.{Sign}
 use Rattle.reader_record.specs.declared.Sign.the-variants.{AtMost, AtLeast, Equal, Less, Greater}
 use Rattle.reader_record.specs.declared.Comparison.{Comparison}
 use Rattle.reader_record.specs.declared.Constraint.{Constraint}
 use Rattle.reader_record.specs.declared.Label.{Label}
 use Rattle.reader_record.specs.declared.Label.the-variants.{Input, Output}
+use Rattle.reader_record.specs.declared.Assignment.{Assignment}
 use Rattle.reader_record.specs.declared.Edge.{Edge}
 use Rattle.reader_record.specs.declared.Text.{Text}
 use Rattle.written.specs.Spaced.{Tokens, spaced-tokens, part-tokens, numbered-items}
@@ -61,22 +62,23 @@ mark-bytes (Output c) = bytes "!"
 unfoldable pub label-tokens : List (List ℕ) → Label → Tokens
 label-tokens names a = bytes "sync" ∷ getD names (channel a - 1) [] ∷ mark-bytes a ∷ bytes ";" ∷ []
 
--- the clocks among the n from number i on that are reset, once each in clock order (SPECIFICATION 18.5)
-unfoldable pub reset-clocks : List Bool → ℕ → ℕ → List ℕ
-reset-clocks resets i zero = []
-reset-clocks resets i (suc n) =
-    let more = reset-clocks resets (suc i) n in
-    cond (getD resets i false) (i ∷ more) more
+-- the clocks among the n from number i on that are assigned, once each in clock order (SPECIFICATION 18.5)
+unfoldable pub assigned-clocks : List Assignment → ℕ → ℕ → List ℕ
+assigned-clocks all i zero = []
+assigned-clocks all i (suc n) =
+    let more = assigned-clocks all (suc i) n in
+    cond (getD all i no-assignment .made) (i ∷ more) more
 
--- a clock set to 0
-unfoldable pub assignment-tokens : ℕ → ℕ → Tokens
-assignment-tokens u i = clock-called u i ∷ bytes "=" ∷ decimal 0 ∷ []
+-- clock i and the value assigned, in ticks (SPECIFICATION 18.5)
+unfoldable pub assignment-tokens : ℕ → List Assignment → ℕ → Tokens
+assignment-tokens u all i = clock-called u i ∷ bytes "=" ∷ decimal (getD all i no-assignment .value) ∷ []
 
-unfoldable pub resets-tokens : ℕ → ℕ → List Bool → Tokens
-resets-tokens u clocks resets =
-    part-tokens (bytes "assign" ∷ []) (bytes ",") (bytes ";") (map (assignment-tokens u) (reset-clocks resets 0 clocks))
+unfoldable pub assignments-tokens : ℕ → ℕ → List Assignment → Tokens
+assignments-tokens u clocks all =
+    part-tokens (bytes "assign" ∷ []) (bytes ",") (bytes ";")
+    (map (assignment-tokens u all) (assigned-clocks all 0 clocks))
 
--- an edge: its two locations, and between brackets guard, label and resets
+-- an edge: its two locations, and between brackets guard, label and assignments
 unfoldable pub edge-tokens : List (List ℕ) → ℕ → ℕ → Edge → Tokens
 edge-tokens names u clocks e =
     location-called u (e .source)
@@ -84,7 +86,7 @@ edge-tokens names u clocks e =
     ∷ location-called u (e .target)
     ∷ bytes "{"
     ∷ (constraint-tokens (bytes "guard") (bytes ";") u (e .guard)
-    ++ (label-tokens names (e .label) ++ (resets-tokens u clocks (e .resets) ++ (bytes "}" ∷ []))))
+    ++ (label-tokens names (e .label) ++ (assignments-tokens u clocks (e .assignments) ++ (bytes "}" ∷ []))))
 
 -- a list that a word or two open: n items joined by commas, and `;`
 unfoldable pub list-tokens : Tokens → (ℕ → Tokens) → ℕ → Tokens

@@ -1,6 +1,6 @@
 //! One build of the library: the one that is linked, or an older one from a shared object.
 
-use crate::{returned, Operations, Returned};
+use crate::{returned, Layout, Operations, Returned};
 use megzhoi::raw;
 use std::ffi::{c_char, c_int, c_void, CStr, CString};
 use std::mem::transmute;
@@ -50,6 +50,8 @@ macro_rules! call {
 /// The functions of one build.
 #[derive(Clone, Copy)]
 pub struct Build {
+    /// Of the record.
+    layout: Layout,
     read: Function<Read, ReadBefore>,
     safe_states: Function<SafeStates, SafeStatesBefore>,
     /// An older build may lack it.
@@ -75,6 +77,7 @@ const RTLD_NOW: c_int = 2;
 
 impl Build {
     pub const LINKED: Build = Build {
+        layout: Layout::Now,
         read: Function::Now(raw::megzhoi_read),
         safe_states: Function::Now(raw::megzhoi_safe_states),
         implementation: Some(Function::Now(raw::megzhoi_implementation)),
@@ -133,7 +136,8 @@ impl Build {
                 }
             };
         }
-        Build {
+        let mut build = Build {
+            layout: Layout::Now,
             read: function!(Read, ReadBefore, named(c"megzhoi_read")),
             safe_states: function!(SafeStates, SafeStatesBefore, named(c"megzhoi_safe_states")),
             implementation: find(c"megzhoi_implementation")
@@ -142,8 +146,19 @@ impl Build {
             check: function!(Check, CheckBefore, named(c"megzhoi_check")),
             widest: function!(Widest, WidestBefore, named(c"megzhoi_widest")),
             join: find(c"megzhoi_join").map(|found| function!(Join, JoinBefore, found)),
-        }
+        };
+        build.layout = layout_of(&build);
+        build
     }
+}
+
+/// How a build lays out a record: it is asked for that of the least text. An older one writes fewer numbers.
+fn layout_of(build: &Build) -> Layout {
+    const UNTOUCHED: usize = usize::MAX;
+    let mut record = [UNTOUCHED; raw::RECORD_ENTRIES + 1];
+    let returned = build.read(ONLY_TICK, b"process P() { state L; init L; } system P;", &mut record);
+    assert_eq!(returned.code, 0, "the least text is refused");
+    Layout::of(&record, UNTOUCHED)
 }
 
 /// Whether a build's `megzhoi_read` takes the tick length. It has one name either way, so it is asked: it is called
@@ -176,6 +191,10 @@ fn takes_tick_length(read: *mut c_void) -> bool {
 }
 
 impl Operations for Build {
+    fn layout(&self) -> Layout {
+        self.layout
+    }
+
     #[rustfmt::skip]
     fn read(&self, tick_length: usize, text: &[u8], record: &mut [usize]) -> Returned {
         // SAFETY: pointers and lengths are those of live slices that do not overlap.

@@ -5,12 +5,15 @@
 //!
 //! They are a trait, `Operations`, for the library that is linked (`Build::LINKED`), for one from a shared object and for
 //! plain Rust, so that one program can hold them against each other. A build from before there was a tick length is
-//! recognized, and is called with `ONLY_TICK` alone.
+//! recognized, and is called with `ONLY_TICK` alone. One whose record says of an edge only which clocks it sets to 0 is
+//! recognized too (`Layout`).
 
 mod build;
+mod layout;
 mod operations;
 
 pub use build::{Build, ONLY_TICK};
+pub use layout::Layout;
 pub use operations::{ByPairs, ByRows, Operations};
 
 /// What a call returned: code 0 or that of the refusal, and the three numbers.

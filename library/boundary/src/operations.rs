@@ -1,10 +1,15 @@
 //! The seven operations, whoever carries them out. Each takes the tick length first.
 
-use crate::Returned;
+use crate::{Layout, Returned};
 use plain::Refusal;
 
 pub trait Operations {
     fn read(&self, tick_length: usize, text: &[u8], record: &mut [usize]) -> Returned;
+
+    /// How the record that `read` writes is laid out: an older build has it otherwise.
+    fn layout(&self) -> Layout {
+        Layout::Now
+    }
 
     fn safe_states(&self, tick_length: usize, text: &[u8], keep: &mut [u8]) -> Returned;
 

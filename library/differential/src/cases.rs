@@ -4,8 +4,8 @@ use boundary::ONLY_TICK;
 use plain::TICK_LIMIT;
 use texts::kinds::{departing, texts, Kind, KINDS};
 use texts::{at_a_limit, damaged, each_edge_twice, joinable, noise, passive, relay, urgent, Model, Random, Reach};
-use texts::{early, hush, idle, loose, post, rearm, sheet, spare, strict, twice};
-use texts::{in_milliseconds, with_other_numeral};
+use texts::{early, hush, idle, loose, post, rearm, sheet, spare, strict, twice, woken};
+use texts::{in_milliseconds, started_late, with_other_numeral};
 
 /// Larger products are only tried with slices too short for them, to keep the run short.
 const PAIRS_LIMIT: usize = 520_000;
@@ -61,7 +61,7 @@ fn text_of_ticks(random: &mut Random) -> Vec<u8> {
         75..=89 => at_a_limit(random),
         90..=92 => noise(random),
         93..=95 => joined(random),
-        _ => random.pick(&[post, rearm, early, hush, idle, strict, loose, spare, sheet, twice])(),
+        _ => random.pick(&[post, rearm, early, hush, idle, strict, loose, spare, sheet, twice, woken])(),
     }
 }
 
@@ -84,9 +84,13 @@ pub fn text_to_judge(random: &mut Random, tick_length: usize) -> Vec<u8> {
         45 => twice_of_ticks(random, LARGE).0,
         46 => {
             let reach = *random.pick(&[Reach::All, Reach::Few, Reach::Fault]);
-            passive(random.between(3, 64), random.between(3, 16), reach)
+            let text = passive(random.between(3, 64), random.between(3, 16), reach);
+            late_or_not(random, text)
         }
-        47 => relay(random.between(2, 128)),
+        47 => {
+            let text = relay(random.between(2, 128));
+            late_or_not(random, text)
+        }
         48..=64 => urgent(random, 5).text(random),
         _ => urgent(random, 5).varied(random).text(random),
     };
@@ -141,8 +145,32 @@ fn two_of_ticks(random: &mut Random) -> Texts {
 const LARGE: &[usize] = &[40, 150, 720];
 const SMALL: &[usize] = &[20, 40, 150];
 
-/// Two texts of a kind, in either order; now and then the left is that of another kind.
+/// Of a hundred texts of a kind, how many have clocks that start late.
+const LATE: usize = 15;
+
+/// The text, now and then with each clock that it sets to 0 set to a few ticks.
+fn late_or_not(random: &mut Random, text: Vec<u8>) -> Vec<u8> {
+    match random.chance(LATE) {
+        true => started_late(&text, random.between(1, 4)),
+        false => text,
+    }
+}
+
+/// Two texts of a kind, in either order; now and then the left is that of another kind, and now and then one or both
+/// have clocks that start late.
 fn kinds_of_ticks(random: &mut Random, sizes: &[usize]) -> Texts {
+    let (left, right) = kinds_at_zero(random, sizes);
+    match random.chance(LATE) {
+        // In both they start at one time: such a pair often stays one that refines.
+        true => {
+            let ticks = random.between(1, 4);
+            (started_late(&left, ticks), started_late(&right, ticks))
+        }
+        false => (late_or_not(random, left), late_or_not(random, right)),
+    }
+}
+
+fn kinds_at_zero(random: &mut Random, sizes: &[usize]) -> Texts {
     let kind = *random.pick(&KINDS);
     let most = *random.pick(sizes);
     let (states, clocks, channels) = (random.between(4, most), random.between(1, 3), random.between(2, 16));

@@ -2,7 +2,7 @@
 //! writes compared.
 
 use crate::cases::{self, Given};
-use boundary::{Build, ByPairs, Operations, Returned};
+use boundary::{Build, Operations, Returned};
 use plain::codes::{OUT_TOO_SHORT, RUN_TOO_SHORT};
 use std::fmt::Debug;
 use texts::Random;
@@ -90,9 +90,8 @@ fn lent_words(random: &mut Random, length: usize) -> Lent<u32> {
     Lent::new(random, length, |number| number as u32)
 }
 
-pub fn read(random: &mut Random) -> Made {
-    let tick_length = cases::tick_length(random);
-    let text = cases::text(random, tick_length);
+/// The record of an older build may be laid out otherwise: its numbers are compared as they stand now.
+pub fn read(random: &mut Random, other: &dyn Operations, tick_length: usize, text: Vec<u8>) -> Made {
     let length = match random.below(4) {
         0 => random.below(plain::RECORD_ENTRIES),
         1 => plain::RECORD_ENTRIES + random.below(9),
@@ -100,47 +99,53 @@ pub fn read(random: &mut Random) -> Made {
     };
     let mut library = Lent::new(random, length, |number| number as usize);
     let before = library.clone();
-    let answer = plain::read(tick_length, &text);
-    let returned = Build::LINKED.read(tick_length, &text, library.slice());
-    let lengths = format!("record {length}");
-    let plainly = Returned::plainly(answer.as_ref().map_err(|refusal| *refusal), |record| (record.states, 0));
-    let both = Both { library: returned, other: plainly };
-    let mut made = Made::new(both, tick_length, vec![("text", text)], lengths);
+    let mut of_other = vec![0; other.layout().entries()];
+    let both = Both {
+        library: Build::LINKED.read(tick_length, &text, library.slice()),
+        other: other.read(tick_length, &text, &mut of_other),
+    };
+    let own = plain::read(tick_length, &text).map(|record| own_entries(&record));
+    let mut made = Made::new(both, tick_length, vec![("text", text)], format!("record {length}"));
     made.compare_beyond("record", &library, &before);
-    match answer {
+    match own {
         Err(_) => made.compare_lent("record", &library, &before),
-        Ok(record) => compare_record(&mut made, &record, &library, &before),
+        Ok(own) => compare_record(&mut made, &own, &other.layout().moved(&of_other), (&library, &before)),
     }
     made
 }
 
-/// Compares the entries of the text's own items, and those past the record's last one.
-fn compare_record(made: &mut Made, record: &plain::Record, library: &Lent<usize>, before: &Lent<usize>) {
-    let (mut some, mut other) = (vec![0; library.length], vec![usize::MAX; library.length]);
+/// For each entry of a record whether it is of one of the text's own items: plain Rust writes those alone.
+fn own_entries(record: &plain::Record) -> Vec<bool> {
+    let [mut some, mut other] = [0, usize::MAX].map(|held| vec![held; plain::RECORD_ENTRIES]);
     record.write(&mut some);
     record.write(&mut other);
-    for i in 0..library.length {
-        if some[i] == other[i] {
-            made.compare(&format!("entry {i} of record"), &library.entries[i], &some[i]);
-        } else if i >= plain::RECORD_ENTRIES {
-            made.compare(&format!("entry {i} of record"), &library.entries[i], &before.entries[i]);
-        }
+    some.iter().zip(&other).map(|(one, other)| one == other).collect()
+}
+
+/// Compares the entries of the text's own items, and those past the record's last one, which stay as they came.
+fn compare_record(made: &mut Made, own: &[bool], other: &[usize], (library, before): (&Lent<usize>, &Lent<usize>)) {
+    let entries = library.entries[..library.length].iter().zip(&before.entries);
+    for (i, (entry, before)) in entries.enumerate() {
+        let wanted = match own.get(i) {
+            Some(true) => &other[i],
+            Some(false) => continue,
+            None => before,
+        };
+        made.compare(&format!("entry {i} of record"), entry, wanted);
     }
 }
 
-pub fn safe_states(random: &mut Random) -> Made {
-    let tick_length = cases::tick_length(random);
-    let text = cases::text(random, tick_length);
+pub fn safe_states(random: &mut Random, other: &dyn Operations, tick_length: usize, text: Vec<u8>) -> Made {
     let states = plain::read(tick_length, &text).map_or(40, |record| record.states);
     let length = cases::length(random, states.div_ceil(8));
-    let mut library = lent_bytes(random, length);
-    let mut plain = library.clone();
+    let mut of_library = lent_bytes(random, length);
+    let mut of_other = of_library.clone();
     let both = Both {
-        library: Build::LINKED.safe_states(tick_length, &text, library.slice()),
-        other: ByPairs.safe_states(tick_length, &text, plain.slice()),
+        library: Build::LINKED.safe_states(tick_length, &text, of_library.slice()),
+        other: other.safe_states(tick_length, &text, of_other.slice()),
     };
     let mut made = Made::new(both, tick_length, vec![("text", text)], format!("keep {length}"));
-    made.compare_lent("keep", &library, &plain);
+    made.compare_lent("keep", &of_library, &of_other);
     made
 }
 

@@ -7,8 +7,9 @@
 //! With the word `before` the library is compared with an older build of it instead, a shared object that
 //! MEGZHOI_BEFORE names, on pairs of texts by kind and random ones; MEGZHOI_PAIRS is their number (4,000).
 //! MEGZHOI_STRICT=0 passes over pairs with a strict sign, for an older build that does not read it. Whether the older
-//! build takes a tick length is seen from what it answers; where it does not, both are called with 1. Where it refuses
-//! parallel edges with 11, the library is compared with plain Rust (before.rs).
+//! build takes a tick length, and how it lays out a record, is seen from what it answers; where it takes none, both are
+//! called with 1. Where it refuses a late clock with 2, or parallel edges with 11, the library is compared with plain
+//! Rust (before.rs).
 
 #![forbid(unsafe_code)]
 
@@ -33,7 +34,9 @@ struct Operation {
     two_texts: bool,
 }
 
-/// The places of some operations in `OPERATIONS`.
+/// The places of the operations in `OPERATIONS`.
+const READ: usize = 0;
+const SAFE_STATES: usize = 1;
 const SEARCH: usize = 2;
 const CHECK: usize = 3;
 const WIDEST: usize = 4;
@@ -43,13 +46,13 @@ const JOIN: usize = 6;
 const OPERATIONS: [Operation; 7] = [
     Operation {
         name: "read",
-        call: compare::read,
+        call: |random| on_a_text(compare::read, random),
         codes: &[0, 1, 2, 3, 4, 5, 6, 7, 8, 9, 10, 11, 24],
         two_texts: false,
     },
     Operation {
         name: "safe states",
-        call: compare::safe_states,
+        call: |random| on_a_text(compare::safe_states, random),
         codes: &[0, 1, 2, 3, 4, 5, 6, 7, 8, 9, 10, 11, 13, 24],
         two_texts: false,
     },
@@ -84,6 +87,15 @@ const OPERATIONS: [Operation; 7] = [
         two_texts: true,
     },
 ];
+
+/// A call on one text, compared with another's.
+type OnAText = fn(&mut Random, &dyn Operations, usize, Vec<u8>) -> Made;
+
+fn on_a_text(call: OnAText, random: &mut Random) -> Made {
+    let tick_length = cases::tick_length(random);
+    let text = cases::text(random, tick_length);
+    call(random, &ByPairs, tick_length, text)
+}
 
 /// A call on two texts, compared with another's.
 type OnTwoTexts = fn(&mut Random, &dyn Operations, Given) -> Made;

@@ -1,6 +1,6 @@
 //! Two texts joined: their conjunction, written as a text (SPECIFICATION 18).
 
-use crate::record::{Comparison, Comparisons, Direction, Edge, Location, Record, Sign};
+use crate::record::{Assignment, Comparison, Comparisons, Direction, Edge, Location, Record, Sign};
 use crate::record::{CLOCK_LIMIT, COMPARISON_LIMIT, EDGE_LIMIT, LOCATION_LIMIT};
 use crate::{moves, TEXT_LIMIT};
 
@@ -35,13 +35,20 @@ fn record(left: &Record, right: &Record, partner: &[usize]) -> Option<Record> {
                 return None;
             }
             let guard = both(&a.guard, &b.guard, shift)?;
-            let resets = std::array::from_fn(|k| if k < shift { a.resets[k] } else { b.resets[k - shift] });
+            let assignments = std::array::from_fn(|k| {
+                written_once(if k < shift { a.assignments[k] } else { b.assignments[k - shift] })
+            });
             let (source, target) = (pair(a.source, b.source), pair(a.target, b.target));
-            edges.push(Edge { source, target, label: a.label, guard, resets });
+            edges.push(Edge { source, target, label: a.label, guard, assignments });
         }
     }
     let init = pair(left.init, right.init);
     Some(Record { channels: left.channels.clone(), clocks, locations, init, edges, states: 0 })
+}
+
+/// What a joined text has of an assignment: the value alone, so that this is the largest one written (SPECIFICATION 18.5).
+fn written_once(assignment: Option<Assignment>) -> Option<Assignment> {
+    assignment.map(|Assignment { value, .. }| Assignment { value, largest: value })
 }
 
 /// The left's comparisons and then the right's, whose clocks come after the left's; `None` where they are too many.
@@ -77,6 +84,14 @@ impl Tokens {
     fn put(&mut self, token: impl AsRef<[u8]>) {
         self.bytes.extend_from_slice(token.as_ref());
         self.bytes.push(b' ');
+    }
+
+    /// A number without a space after it. Most joined edges have one for each clock: no memory is taken for it.
+    fn digits(&mut self, number: u16) {
+        if number > 9 {
+            self.digits(number / 10);
+        }
+        self.bytes.push(b'0' + (number % 10) as u8);
     }
 
     fn name(&mut self, letter: u8, number: usize) {
@@ -115,10 +130,13 @@ impl Tokens {
         self.put(name);
         self.put(mark);
         self.put(";");
-        let reset: Vec<usize> = (0..CLOCK_LIMIT).filter(|clock| edge.resets[*clock]).collect();
-        self.list(["assign", ",", ";"], &reset, |tokens, clock| {
+        let of_clock = |clock: usize| edge.assignments[clock].map(|assignment| (clock, assignment.value));
+        let assigned: Vec<(usize, u16)> = (0..CLOCK_LIMIT).filter_map(of_clock).collect();
+        self.list(["assign", ",", ";"], &assigned, |tokens, (clock, value)| {
             tokens.name(b'c', *clock);
-            tokens.put("= 0");
+            tokens.put("=");
+            tokens.digits(*value);
+            tokens.put("");
         });
         self.put("}");
     }

@@ -21,7 +21,7 @@ mod table;
 mod token;
 
 pub use record::RECORD_ENTRIES;
-pub use record::{Channel, Comparison, Comparisons, Direction, Edge, Label, Location, Name, Record, Sign};
+pub use record::{Assignment, Channel, Comparison, Comparisons, Direction, Edge, Label, Location, Name, Record, Sign};
 pub use search::search_counted;
 
 use moves::System;
@@ -196,6 +196,12 @@ pub fn join(tick_length: usize, left: &[u8], right: &[u8], out: &mut [u8]) -> Re
 /// Whether a text is accepted and has parallel edges (SPECIFICATION 7.2).
 pub fn has_parallel_edges(tick_length: usize, text: &[u8]) -> bool {
     read_one(tick_length, text).is_ok_and(|(record, _)| moves::edges_meet(&record))
+}
+
+/// Whether a text is accepted and an edge of it sets a clock to more than 0 ticks (SPECIFICATION 5.4).
+pub fn has_late_clocks(tick_length: usize, text: &[u8]) -> bool {
+    let is_late = |edge: &Edge| edge.assignments.iter().flatten().any(|assignment| assignment.value > 0);
+    read_one(tick_length, text).is_ok_and(|(record, _)| record.edges.iter().any(is_late))
 }
 
 /// Whether in a state of a text, accepted or not, two edges or more give moves by a channel, all of which lead to one

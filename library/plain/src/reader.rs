@@ -218,9 +218,9 @@ impl<'a> Reader<'a> {
         self.expect(Kind::Open)?;
         let guard = self.guard()?;
         let label = self.label()?;
-        let resets = self.resets()?;
+        let assignments = self.assignments()?;
         self.expect(Kind::Close)?;
-        Ok(Edge { source, target, label, guard, resets })
+        Ok(Edge { source, target, label, guard, assignments })
     }
 
     fn guard(&mut self) -> Read<Comparisons> {
@@ -253,22 +253,21 @@ impl<'a> Reader<'a> {
         Ok(label)
     }
 
-    fn resets(&mut self) -> Read<[bool; CLOCK_LIMIT]> {
-        let mut resets = [false; CLOCK_LIMIT];
+    /// For each clock the value of its last assignment, and the largest one written.
+    fn assignments(&mut self) -> Read<[Option<Assignment>; CLOCK_LIMIT]> {
+        let mut assignments: [Option<Assignment>; CLOCK_LIMIT] = [None; CLOCK_LIMIT];
         if !self.take(Kind::Assign) {
-            return Ok(resets);
+            return Ok(assignments);
         }
         loop {
             let clock = self.clock()?;
             self.expect(Kind::Becomes)?;
-            if !self.at(Kind::Numeral) || self.value() != 0 {
-                return self.misfit();
-            }
-            self.advance();
-            resets[clock] = true;
+            let value = self.constant()? as u16;
+            let largest = assignments[clock].map_or(value, |before| value.max(before.largest));
+            assignments[clock] = Some(Assignment { value, largest });
             if !self.take(Kind::Comma) {
                 self.expect(Kind::Semicolon)?;
-                return Ok(resets);
+                return Ok(assignments);
             }
         }
     }
@@ -284,7 +283,7 @@ impl<'a> Reader<'a> {
             }
             let sign = self.sign(in_guard)?;
             let place = self.token.start;
-            let bound = self.bound()?;
+            let bound = self.constant()?;
             if !in_guard && sign == Sign::Less && bound == 0 {
                 return fault(codes::MISFIT, place);
             }
@@ -309,16 +308,16 @@ impl<'a> Reader<'a> {
     }
 
     /// A constant in ticks.
-    fn bound(&mut self) -> Read<usize> {
+    fn constant(&mut self) -> Read<usize> {
         if !self.at(Kind::Numeral) {
             return self.misfit();
         }
-        let bound = self.ticks(self.value());
-        if bound > CONSTANT_LIMIT {
+        let constant = self.ticks(self.value());
+        if constant > CONSTANT_LIMIT {
             return fault(codes::CONSTANT_TOO_LARGE, self.token.start);
         }
         self.advance();
-        Ok(bound)
+        Ok(constant)
     }
 
     /// Milliseconds as whole ticks: up where what is left over is half a tick or more (SPECIFICATION 4.7).

@@ -1,7 +1,7 @@
 //! What reading a text gives: its channels, clocks, locations, edges and the number of states.
 
 /// Numbers in a record that is written out by `Record::write`.
-pub const RECORD_ENTRIES: usize = 3_100;
+pub const RECORD_ENTRIES: usize = 3_868;
 
 pub const CHANNEL_LIMIT: usize = 16;
 pub const CLOCK_LIMIT: usize = 3;
@@ -110,13 +110,22 @@ impl Label {
     }
 }
 
+/// What an edge sets a clock to, in ticks: the value of the last assignment, and the largest one that is written
+/// (SPECIFICATION 5.4). Both are in as few bytes as the limit of constants allows: edges are copied.
+#[derive(Clone, Copy, Debug, PartialEq, Eq)]
+pub struct Assignment {
+    pub value: u16,
+    pub largest: u16,
+}
+
+/// An edge; a clock that it does not assign has no assignment.
 #[derive(Clone, Copy, Debug, PartialEq, Eq)]
 pub struct Edge {
     pub source: usize,
     pub target: usize,
     pub label: Label,
     pub guard: Comparisons,
-    pub resets: [bool; CLOCK_LIMIT],
+    pub assignments: [Option<Assignment>; CLOCK_LIMIT],
 }
 
 #[derive(Clone, Debug, PartialEq, Eq)]
@@ -130,7 +139,7 @@ pub struct Record {
 }
 
 impl Record {
-    /// How many values each clock has: the largest constant it is compared with, plus 2.
+    /// How many values each clock has: the largest constant it is compared with or assigned, plus 2.
     pub fn values(&self) -> [usize; CLOCK_LIMIT] {
         let mut values = [1; CLOCK_LIMIT];
         values[..self.clocks.len()].fill(2);
@@ -140,6 +149,11 @@ impl Record {
             for comparison in comparisons.as_slice() {
                 let value = &mut values[comparison.clock];
                 *value = (*value).max(comparison.bound + 2);
+            }
+        }
+        for edge in &self.edges {
+            for (value, assignment) in values.iter_mut().zip(&edge.assignments) {
+                *value = assignment.map_or(*value, |assignment| (*value).max(usize::from(assignment.largest) + 2));
             }
         }
         values
@@ -164,7 +178,7 @@ impl Record {
             sheet.put_comparisons(62 + 15 * i, &location.invariant);
         }
         for (i, edge) in self.edges.iter().enumerate() {
-            sheet.put_edge(540 + 20 * i, edge);
+            sheet.put_edge(540 + 26 * i, edge);
         }
     }
 }
@@ -197,6 +211,9 @@ impl Sheet<'_> {
         };
         self.put(place, &[edge.source, edge.target, mark, channel]);
         self.put_comparisons(place + 4, &edge.guard);
-        self.put(place + 17, &edge.resets.map(usize::from));
+        for (clock, assignment) in edge.assignments.iter().enumerate() {
+            let numbers = assignment.map_or([0; 3], |assignment| [1, assignment.value, assignment.largest]);
+            self.put(place + 17 + 3 * clock, &numbers.map(usize::from));
+        }
     }
 }

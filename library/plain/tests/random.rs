@@ -100,7 +100,7 @@ fn compare_two(left: &Model, right: &Model, texts: (&[u8], &[u8])) -> Option<usi
 #[test]
 fn fast_and_naive_agree() {
     let random = &mut Random::new(7);
-    let (mut accepted, mut parallel, mut departing, mut refining) = (0, 0, 0, 0);
+    let (mut accepted, mut parallel, mut late, mut departing, mut refining) = (0, 0, 0, 0, 0);
     for _ in 0..2_500 {
         let right = Model::random(random, 3);
         let left = if random.chance(70) { right.varied(random) } else { right.clone() };
@@ -112,6 +112,7 @@ fn fast_and_naive_agree() {
         }
         accepted += 1;
         parallel += usize::from([&texts.0, &texts.1].into_iter().any(|text| plain::has_parallel_edges(TICK, text)));
+        late += usize::from([&texts.0, &texts.1].into_iter().any(|text| plain::has_late_clocks(TICK, text)));
         let small = Naive::new(&left).states.len() * Naive::new(&right).states.len() < 6_000;
         match small.then(|| compare_two(&left, &right, (&texts.0, &texts.1))).flatten() {
             Some(0) => refining += 1,
@@ -119,14 +120,15 @@ fn fast_and_naive_agree() {
             None => (),
         }
     }
-    println!("accepted {accepted}, with parallel edges {parallel}, departing {departing}, refining {refining}");
-    assert!(accepted > 500 && parallel > 300 && departing > 100 && refining > 100);
+    println!("accepted {accepted}, with parallel edges {parallel}, with late clocks {late}");
+    println!("departing {departing}, refining {refining}");
+    assert!(accepted > 500 && parallel > 300 && late > 300 && departing > 100 && refining > 100);
 }
 
 #[test]
 fn implementations() {
     let random = &mut Random::new(11);
-    let (mut implementations, mut parallel, mut both, mut neither) = (0, 0, 0, 0);
+    let (mut implementations, mut parallel, mut late, mut both, mut neither) = (0, 0, 0, 0, 0);
     for _ in 0..4_000 {
         let locations = random.between(1, 4);
         let model = match random.below(4) {
@@ -139,14 +141,14 @@ fn implementations() {
             continue;
         }
         parallel += usize::from(plain::has_parallel_edges(TICK, &text));
+        late += usize::from(plain::has_late_clocks(TICK, &text));
         match compare_implementation(&model, &text) {
             0 => implementations += 1,
             OUTPUT_BESIDE_TICK => both += 1,
             _ => neither += 1,
         }
     }
-    println!(
-        "implementations {implementations}, both possible {both}, neither {neither}; parallel edges in {parallel} texts"
-    );
-    assert!(implementations > 1_000 && both > 500 && neither > 500 && parallel > 500);
+    println!("implementations {implementations}, both possible {both}, neither {neither}");
+    println!("parallel edges in {parallel} texts, late clocks in {late}");
+    assert!(implementations > 1_000 && both > 500 && neither > 500 && parallel > 500 && late > 500);
 }

@@ -63,8 +63,15 @@ fn numerals() {
     judged(6, &with_guard("x <= #0001001"));
     judged(6, &with_guard(&format!("x <= #{}", "9".repeat(400))));
     judged(0, &with_assign("x = 00, x = 0, x = 0, x = 0, x = 0"));
-    judged(2, &with_assign("x = #1"));
-    judged(2, &with_assign("x = #5000"));
+    judged(0, &with_assign("x = 1"));
+    judged(0, &with_assign("x = 0001000"));
+    judged(6, &with_assign("x = #1001"));
+    judged(6, &with_assign("x = #5000, x = 0"));
+    judged(6, &with_assign("x = 0, x = 1000, x = #1001, y = 0"));
+    judged(5, &with_assign("x = 1, #y = 1001"));
+    judged(2, &with_assign("x = #y"));
+    judged(2, &with_assign("x #1"));
+    judged(2, &with_assign("x = 1 #2"));
     judged(2, "process P() { clock x; state L { x #>= 3 }; init L; } system P;");
 }
 

@@ -98,17 +98,37 @@ fn zero_ticks_after_less() {
     }
 }
 
-/// The 0 of a reset is judged as it is written.
+/// A constant in an assignment is scaled as one in a guard is, up to the limit and past it.
 #[test]
-fn resets() {
+fn assignments() {
     let text = |value: &str| {
         let edge = format!("L -> L {{ sync a!; assign x = {value}; }}");
         format!("broadcast chan a; process P() {{ clock x; state L; init L; trans {edge}; }} system P;").into_bytes()
     };
+    let assigned = |tick_length: usize, constant: &str| match read(tick_length, &text(constant)) {
+        Ok(record) => {
+            let assignment = record.edges[0].assignments[0].expect("an assignment");
+            let value = usize::from(assignment.value);
+            assert_eq!((assignment.largest, record.states), (assignment.value, value + 2));
+            Some(value)
+        }
+        Err(refusal) => {
+            assert_eq!(refusal, refused(6, place_of(&text(constant), "= ") + 2));
+            None
+        }
+    };
     for tick_length in TICK_LENGTHS {
-        assert!(read(tick_length, &text("000")).is_ok());
-        let one = text("1");
-        assert_eq!(read(tick_length, &one), Err(refused(2, place_of(&one, "1;"))));
+        let over = (2_001 * tick_length).div_ceil(2); // 1,000 and a half
+        let half = tick_length.div_ceil(2);
+        assert_eq!(assigned(tick_length, "000"), Some(0));
+        assert_eq!(assigned(tick_length, &(half - 1).to_string()), Some(0));
+        assert_eq!(assigned(tick_length, &half.to_string()), Some(1));
+        assert_eq!(assigned(tick_length, &(over - 1).to_string()), Some(1_000));
+        assert_eq!(assigned(tick_length, &over.to_string()), None);
+        assert_eq!(assigned(tick_length, &"9".repeat(400)), None);
+        for constant in [0, 1, 2, 3, 5, 7, 10, 999, 1_000, 1_001, 4_000_000, 60_000_000] {
+            assert_eq!(assigned(tick_length, &constant.to_string()), ticks(tick_length, &constant.to_string()));
+        }
     }
 }
 

@@ -51,7 +51,7 @@ pub mod raw;
 mod record;
 mod refusal;
 
-pub use record::{Channel, Comparison, Direction, Edge, Label, Location, Record, Sign};
+pub use record::{Assignment, Channel, Comparison, Direction, Edge, Label, Location, Record, Sign};
 pub use refusal::{Code, NoSuchCode, Refusal, Side};
 
 use std::thread;
@@ -97,7 +97,7 @@ fn with_stack<T: Send>(call: impl FnOnce() -> T + Send) -> T {
 /// Reads a text: its record, with the number of its states. The constants in it are in ticks.
 ///
 /// ```
-/// use megzhoi::{read, Direction, Refusal};
+/// use megzhoi::{read, Assignment, Direction, Refusal};
 ///
 /// let text = b"broadcast chan go;
 /// process Lamp() {
@@ -111,11 +111,35 @@ fn with_stack<T: Send>(call: impl FnOnce() -> T + Send) -> T {
 /// assert_eq!(record.states, 4); // the clock has the values 0, 1 and 2, and one for all above
 /// assert_eq!(record.channels[0].direction, Direction::Input);
 /// assert_eq!(text[record.locations[0].name.clone()], *b"Off");
-/// assert_eq!(record.edges[0].resets, [true, false, false]);
+/// assert_eq!(record.edges[0].assignments, [Some(Assignment { value: 0, largest: 0 }), None, None]);
 ///
 /// // The same constant in milliseconds, of ticks of 4: an exact half goes upward.
 /// assert_eq!(read(4, text)?.locations[0].invariant[0].bound, 1);
 /// # Ok::<(), Refusal>(())
+/// ```
+///
+/// An edge may set a clock to another value than 0. Of several assignments of one clock the last counts, but every value
+/// that is written makes the clock have states up to it. A value that the target's invariant forbids takes the move away.
+///
+/// ```
+/// use megzhoi::{read, Assignment, Code};
+///
+/// # fn main() -> Result<(), Box<dyn std::error::Error>> {
+/// # let woken = std::fs::read_to_string(concat!(env!("CARGO_MANIFEST_DIR"), "/../../examples/Woken.xta"))?;
+/// // In examples/Woken.xta a spike sets the clock to 1.
+/// let record = read(1, woken.as_bytes())?;
+/// assert_eq!(record.states, 10);
+/// assert_eq!(record.edges[1].assignments[0], Some(Assignment { value: 1, largest: 1 }));
+///
+/// let record = read(1, woken.replace("x = 1", "x = 7, x = 1").as_bytes())?;
+/// assert_eq!(record.states, 18);
+/// assert_eq!(record.edges[1].assignments[0], Some(Assignment { value: 1, largest: 7 }));
+///
+/// // With its clock at 4 the invariant of Wait does not hold, so Wait has no move by `spike`.
+/// let refusal = read(1, woken.replace("x = 1", "x = 4").as_bytes()).unwrap_err();
+/// assert_eq!((refusal.code, refusal.p, refusal.q), (Code::InputWithoutMove, 0, 2));
+/// # Ok(())
+/// # }
 /// ```
 ///
 /// Two edges that give moves by one channel make one move where they lead to one state; elsewhere the text is refused.
@@ -128,7 +152,7 @@ fn with_stack<T: Send>(call: impl FnOnce() -> T + Send) -> T {
 /// // examples/Twice.xta has the edge for `pass` from Wait to Done two times.
 /// assert_eq!(read(1, twice.as_bytes())?.states, 10);
 ///
-/// // If the second one resets the clock, they lead to one state where the clock is at 0, and not where it is at 1.
+/// // If the second one sets the clock to 0, they lead to one state where the clock is at 0, and not where it is at 1.
 /// let edge = "Wait -> Done { sync pass?; }";
 /// let resetting = twice.replacen(edge, "Wait -> Done { sync pass?; assign x = 0; }", 1);
 /// let refusal = read(1, resetting.as_bytes()).unwrap_err();

@@ -3,7 +3,7 @@
 #![allow(missing_docs)]
 
 /// Numbers in the record of a text.
-pub const RECORD_ENTRIES: usize = 3100;
+pub const RECORD_ENTRIES: usize = 3868;
 
 /// The places of the record's counts.
 pub const CHANNEL_COUNT: usize = 0;
@@ -21,8 +21,9 @@ pub const CLOCK_ENTRIES: usize = 2;
 pub const LOCATIONS: usize = 60;
 pub const LOCATION_ENTRIES: usize = 15;
 pub const EDGES: usize = 540;
-pub const EDGE_ENTRIES: usize = 20;
+pub const EDGE_ENTRIES: usize = 26;
 pub const COMPARISON_ENTRIES: usize = 3;
+pub const ASSIGNMENT_ENTRIES: usize = 3;
 
 extern "C" {
     pub fn megzhoi_read(

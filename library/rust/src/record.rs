@@ -3,8 +3,9 @@
 use crate::raw::*;
 use std::ops::Range;
 
-/// A guard or an invariant has at most so many comparisons.
+/// A guard or an invariant has at most so many comparisons, and a text so many clocks.
 const COMPARISON_LIMIT: usize = 4;
+const CLOCK_LIMIT: usize = 3;
 
 /// How the edges use a channel. One that no edge names counts as an output that never happens.
 #[derive(Clone, Copy, Debug, PartialEq, Eq)]
@@ -59,7 +60,17 @@ pub enum Label {
     Output(usize),
 }
 
-/// An edge between two locations, numbered from 0; `resets` has the clocks that it sets to 0.
+/// What an edge sets a clock to, in ticks. `value` is that of the last assignment. `largest` is the largest value that is
+/// written in one: it counts towards the clock's values, and so towards the number of states, also where a later
+/// assignment overrides it.
+#[derive(Clone, Copy, Debug, PartialEq, Eq)]
+#[allow(missing_docs)]
+pub struct Assignment {
+    pub value: usize,
+    pub largest: usize,
+}
+
+/// An edge between two locations, numbered from 0; `assignments` has for each clock what the edge sets it to, if it does.
 #[derive(Clone, Debug, PartialEq, Eq)]
 #[allow(missing_docs)]
 pub struct Edge {
@@ -67,7 +78,7 @@ pub struct Edge {
     pub target: usize,
     pub label: Label,
     pub guard: Vec<Comparison>,
-    pub resets: [bool; 3],
+    pub assignments: [Option<Assignment>; CLOCK_LIMIT],
 }
 
 /// The record of a text that was read.
@@ -116,11 +127,15 @@ fn location(n: &[usize]) -> Location {
     Location { name: name(n), invariant: constraint(&n[2..]) }
 }
 
+fn assignment(n: &[usize]) -> Option<Assignment> {
+    (n[0] == 1).then(|| Assignment { value: n[1], largest: n[2] })
+}
+
 fn edge(n: &[usize]) -> Edge {
     let label = if n[2] == 1 { Label::Input(n[3]) } else { Label::Output(n[3]) };
-    let (guard, resets) = n[4..].split_at(1 + COMPARISON_LIMIT * COMPARISON_ENTRIES);
-    let resets = [0, 1, 2].map(|clock| resets[clock] == 1);
-    Edge { source: n[0], target: n[1], label, guard: constraint(guard), resets }
+    let (guard, assigned) = n[4..].split_at(1 + COMPARISON_LIMIT * COMPARISON_ENTRIES);
+    let assignments = std::array::from_fn(|clock| assignment(&assigned[clock * ASSIGNMENT_ENTRIES..]));
+    Edge { source: n[0], target: n[1], label, guard: constraint(guard), assignments }
 }
 
 /// The first `count` items of a part of the record.

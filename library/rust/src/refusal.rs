@@ -6,7 +6,7 @@ use std::fmt;
 /// Why a call was refused. The numbers, names and texts are those of `megzhoi.h`.
 ///
 /// [`Code::TwoEdges`] is about two edges that give moves by one channel in one state and lead to different states:
-/// another location, or a clock that differs after the resets. Edges that lead to one state make one move.
+/// another location, or a clock that differs after the assignments. Edges that lead to one state make one move.
 ///
 /// ```
 /// use megzhoi::Code;

@@ -119,6 +119,7 @@ fn layout_of_the_record() {
         ("EDGES", raw::EDGES),
         ("EDGE_ENTRIES", raw::EDGE_ENTRIES),
         ("COMPARISON_ENTRIES", raw::COMPARISON_ENTRIES),
+        ("ASSIGNMENT_ENTRIES", raw::ASSIGNMENT_ENTRIES),
     ];
     assert_eq!(enumerated("MEGZHOI_RECORD_ENTRIES ="), here.map(|(name, number)| (name.to_string(), number)));
     assert_eq!(plain::RECORD_ENTRIES, raw::RECORD_ENTRIES);

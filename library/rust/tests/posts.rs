@@ -1,6 +1,6 @@
 //! The posts through the wrapper; the expected values are those of SPECIFICATION 16.
 use megzhoi::{check, implementation, join, read, safe_states, search, widest};
-use megzhoi::{Code, Direction, Label, Refusal, Side, Sign, KEEP_BYTES, TEXT_LIMIT, TICK_LIMIT};
+use megzhoi::{Assignment, Code, Direction, Label, Refusal, Side, Sign, KEEP_BYTES, TEXT_LIMIT, TICK_LIMIT};
 
 /// The tick length with which constants are ticks.
 const TICK: usize = 1;
@@ -27,7 +27,17 @@ fn changed(text: &str, old: &str, new: &str) -> String {
 }
 
 fn rearm() -> String {
-    changed(POST, "Wait -> Wait { sync spike?; }", "Wait -> Wait { sync spike?; assign x = 0; }")
+    assigning("x = 0")
+}
+
+/// A post whose second edge has these assignments.
+fn assigning(assignments: &str) -> String {
+    let edge = format!("Wait -> Wait {{ sync spike?; assign {assignments}; }}");
+    changed(POST, "Wait -> Wait { sync spike?; }", &edge)
+}
+
+fn woken() -> String {
+    assigning("x = 1")
 }
 
 fn early() -> String {
@@ -119,10 +129,11 @@ fn record_of_post() {
     assert_eq!((record.locations[0].invariant.len(), record.locations[1].invariant.len()), (1, 0));
     assert_eq!((record.init, record.states, record.edges.len()), (0, 10, 5));
     let late = &record.edges[2];
-    assert_eq!((late.source, late.target, late.label, late.resets), (0, 1, Label::Output(3), [false; 3]));
+    assert_eq!((late.source, late.target, late.label, late.assignments), (0, 1, Label::Output(3), [None; 3]));
     assert_eq!((late.guard.len(), late.guard[0].sign, late.guard[0].bound), (1, Sign::AtLeast, 3));
     assert_eq!(record.edges[4].label, Label::Input(2));
-    assert_eq!(read(TICK, rearm().as_bytes()).unwrap().edges[1].resets, [true, false, false]);
+    let to_zero = Assignment { value: 0, largest: 0 };
+    assert_eq!(read(TICK, rearm().as_bytes()).unwrap().edges[1].assignments, [Some(to_zero), None, None]);
 }
 
 #[test]
@@ -321,6 +332,58 @@ fn edges_to_different_states() {
     let shown = read(TICK, post_with(&[PASS, staying]).as_bytes()).unwrap_err().to_string();
     let text = "two edges give moves by one channel and lead to different states";
     assert_eq!(shown, format!("code 11, left or only text: {text} (state 0, channel 1)"));
+}
+
+/// SPECIFICATION 16.11.
+#[test]
+fn woken_posts() {
+    assert_eq!(woken().as_bytes(), example("Woken"));
+    let mut keep = [0xff; 3];
+    let safe = safe_states(TICK, woken().as_bytes(), &mut keep).unwrap();
+    assert_eq!((safe.count, safe.start, keep), (9, true, [0xf7, 0xc0, 0xff]));
+    assert_eq!(implementation(TICK, woken().as_bytes()), Ok(()));
+    assert_eq!(departure(&woken(), POST), Ok(vec![2, 0, 0, 3]));
+    assert_eq!(departure(POST, &woken()), Ok(vec![2, 0, 0, 0]));
+    let states = |text: &str| read(TICK, text.as_bytes()).map(|record| record.states);
+    assert_eq!((states(&woken()), states(&assigning("x = 3"))), (Ok(10), Ok(10)));
+    assert_eq!(states(&assigning("x = 4")), refused(10, 1, 0, 2));
+    assert_eq!(states(&assigning("x = 7, x = 1")), Ok(18));
+    assert_eq!(states(&assigning("x = 1, x = 7")), refused(10, 1, 0, 2));
+    assert_eq!(
+        (count(&assigning("x = 7, x = 1"), &woken()), count(&woken(), &assigning("x = 7, x = 1"))),
+        (Ok(0), Ok(0))
+    );
+    assert_eq!(states(&assigning("x = 1000, x = 1")), Ok(2_004));
+    for assignments in ["x = 1001", "x = 1001, x = 1", "x = 1, x = 1001"] {
+        let text = assigning(assignments);
+        assert_eq!(states(&text), refused(6, 1, text.find("1001").unwrap(), 0));
+    }
+    let edge = "Wait -> Wait { sync spike?; }";
+    let two = changed(POST, edge, &format!("{edge},\nWait -> Wait {{ sync spike?; assign x = 1; }}"));
+    assert_eq!(states(&two), refused(11, 1, 0, 2));
+}
+
+/// Each clock has its own assignment, with the last value and the largest one (SPECIFICATION 5.4).
+#[test]
+fn assignments_of_three_clocks() {
+    let text = changed(&assigning("z = 5, x = 2, z = 3, z = 4"), "clock x", "clock x, y, z");
+    let record = read(TICK, text.as_bytes()).unwrap();
+    let assigned = |value, largest| Some(Assignment { value, largest });
+    assert_eq!((record.states, record.edges.len()), (140, 5));
+    assert_eq!(record.edges[1].assignments, [assigned(2, 2), None, assigned(4, 5)]);
+    assert!([0, 2, 3, 4].iter().all(|edge| record.edges[*edge].assignments == [None; 3]));
+    let record = read(2, text.as_bytes()).unwrap();
+    assert_eq!(record.edges[1].assignments, [assigned(1, 1), None, assigned(2, 3)]);
+}
+
+/// A joined edge sets each clock once, to the value that counts (SPECIFICATION 18.5).
+#[test]
+fn joined_assignments() {
+    let text = joined(TICK, assigning("x = 7, x = 1").as_bytes(), rearm().as_bytes()).unwrap();
+    assert_eq!(text.matches("{ sync spike ? ; assign c0 = 1 , c1 = 0 ; }").count(), 1);
+    assert_eq!(read(TICK, text.as_bytes()).unwrap().states, 100);
+    let text = joined(2, assigning("x = 3").as_bytes(), woken().as_bytes()).unwrap();
+    assert_eq!(text.matches("{ sync spike ? ; assign c0 = 2 , c1 = 1 ; }").count(), 1);
 }
 
 /// SPECIFICATION 16.9.

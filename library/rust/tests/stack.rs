@@ -3,7 +3,7 @@
 //! MEGZHOI_STACK=bytes tries another size; where it is too small, the test ends by a signal.
 use megzhoi::{here, keep_bytes, queue_entries, table_bytes, KEEP_BYTES, STACK, TEXT_LIMIT};
 use std::thread;
-use texts::{chain, drifting, full_of_edges, full_of_tokens, passive, post, Kind, Reach};
+use texts::{chain, drifting, full_of_edges, full_of_tokens, passive, post, started_late, woken, Kind, Reach};
 
 /// The tick length with which constants are ticks.
 const TICK: usize = 1;
@@ -37,12 +37,15 @@ fn operations(left: &[u8], right: &[u8]) {
 
 /// Small and large texts; those of 4,096 states have the largest search.
 fn texts() -> Vec<(Vec<u8>, Vec<u8>)> {
+    let late = |(left, right): (Vec<u8>, Vec<u8>)| (started_late(&left, 1), started_late(&right, 1));
     vec![
         (post(), post()),
+        (woken(), woken()),
         (full_of_tokens(), full_of_tokens()),
         (full_of_edges(8, 16), full_of_edges(8, 16)),
         drifting(10, 16, Kind::Departing),
         drifting(64, 4, Kind::Refining),
+        late(drifting(64, 4, Kind::Departing)),
         drifting(64, 4, Kind::Departing),
         chain(128),
         (passive(64, 4, Reach::All), passive(64, 4, Reach::All)),

@@ -1,6 +1,6 @@
 //! Texts with a fault: a token or a byte removed, doubled, swapped or replaced; and plain noise.
 
-use crate::model::{join, Model};
+use crate::model::{join, Edge, Model};
 use crate::random::Random;
 
 const WORDS: [&str; 48] = [
@@ -115,10 +115,16 @@ fn misfit_in_invariant(random: &mut Random, model: &mut Model) {
     }
 }
 
+/// A constant around the limit, in a comparison or in an assignment.
 fn over_the_constant(random: &mut Random, model: &mut Model) {
     let i = random.below(model.edges.len());
-    if let Some(comparison) = model.edges[i].guard.first_mut() {
-        comparison.bound = random.between(999, 1_002);
+    let Edge { guard, assignments, .. } = &mut model.edges[i];
+    let bounds = guard.first_mut().map(|comparison| &mut comparison.bound);
+    let mut constants: Vec<&mut usize> =
+        bounds.into_iter().chain(assignments.iter_mut().map(|a| &mut a.value)).collect();
+    if !constants.is_empty() {
+        let place = random.below(constants.len());
+        *constants[place] = random.between(999, 1_002);
     }
 }
 

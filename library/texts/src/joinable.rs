@@ -1,7 +1,7 @@
 //! Two texts to be joined: random ones over the same channels, most of which can be, and ones whose joined text is at,
 //! just under or just over a limit (SPECIFICATION 18.8).
 
-use crate::model::{Comparison, Edge, Model, INVARIANT_SIGNS, SIGNS};
+use crate::model::{Assignment, Comparison, Edge, Model, INVARIANT_SIGNS, SIGNS};
 use crate::random::Random;
 
 /// Left and right.
@@ -35,10 +35,12 @@ pub fn joinable(random: &mut Random) -> Texts {
         80..=82 => two_of(*random.pick(&LOCATIONS), located),
         83..=84 => two_of(*random.pick(&EDGES), with_edges),
         85 => two_of(*random.pick(&EDGES), with_parallel_edges),
-        86..=88 => two_of(*random.pick(&VALUES), valued),
+        86..=87 => two_of(*random.pick(&VALUES), valued),
+        88 => two_of(*random.pick(&VALUES), set),
         89..=90 => two_of(near(random, CLOCK_LIMIT), with_clocks),
         91..=93 => compared(random),
-        94..=95 => unpaired(random),
+        94 => unpaired(random),
+        95 => overridden(random),
         _ => return of_joined_length(TEXT_LIMIT - 2 + random.below(5)),
     };
     (left.text(random), right.text(random))
@@ -90,7 +92,7 @@ fn bare() -> Model {
 /// An edge for the output from the one location to itself.
 fn output(guard: Vec<Comparison>) -> Edge {
     let place = || "L".to_string();
-    Edge { source: place(), target: place(), guard, channel: "o".to_string(), input: false, resets: Vec::new() }
+    Edge { source: place(), target: place(), guard, channel: "o".to_string(), input: false, assignments: Vec::new() }
 }
 
 fn located(count: usize) -> Model {
@@ -109,6 +111,16 @@ fn with_parallel_edges(count: usize) -> Model {
 
 fn valued(values: usize) -> Model {
     Model { edges: vec![output(vec![comparison("x", ">=", values - 2)])], ..bare() }
+}
+
+/// So many values by an assignment.
+fn set(values: usize) -> Model {
+    let assignments = vec![assignment(values - 2)];
+    Model { edges: vec![Edge { assignments, ..output(Vec::new()) }], ..bare() }
+}
+
+fn assignment(value: usize) -> Assignment {
+    Assignment { clock: "x".to_string(), value }
 }
 
 fn with_clocks(count: usize) -> Model {
@@ -135,6 +147,17 @@ fn compared(random: &mut Random) -> (Model, Model) {
 /// Constants of an output that the other text never names: they are not in the joined text.
 fn unpaired(random: &mut Random) -> (Model, Model) {
     let (large, small) = (valued(random.between(900, 1_002)), located(random.between(2, 5)));
+    match random.chance(50) {
+        true => (large, small),
+        false => (small, large),
+    }
+}
+
+/// A large constant in an assignment that is overridden: it is not in the joined text.
+fn overridden(random: &mut Random) -> (Model, Model) {
+    let assignments = vec![assignment(random.between(900, 1_000)), assignment(random.below(3))];
+    let large = Model { edges: vec![Edge { assignments, ..output(Vec::new()) }], ..bare() };
+    let small = valued(random.between(2, 9));
     match random.chance(50) {
         true => (large, small),
         false => (small, large),

@@ -4,7 +4,7 @@
 //! Every pair is accepted, has equal channels and a left start that is safe. `texts` says how the
 //! sizes are met.
 
-use crate::model::{Comparison, Edge, Model};
+use crate::model::{Assignment, Comparison, Edge, Model};
 
 #[derive(Clone, Copy, Debug, PartialEq, Eq)]
 pub enum Kind {
@@ -193,7 +193,7 @@ impl Draft {
             guard: comparisons(guard),
             channel: channel_name(channel),
             input: channel < self.inputs,
-            resets: resets.iter().copied().map(clock_name).collect(),
+            assignments: resets.iter().map(|clock| Assignment::to_zero(clock_name(*clock))).collect(),
         });
     }
 

@@ -1,13 +1,13 @@
 //! Texts just at a limit (SPECIFICATION 4.3) and just over it.
 
-use crate::model::{Comparison, Edge, Model, INVARIANT_SIGNS, SIGNS};
+use crate::model::{Assignment, Comparison, Edge, Model, INVARIANT_SIGNS, SIGNS};
 use crate::random::Random;
 
 /// A text at a limit chosen at random, or one over it.
 pub fn at_a_limit(random: &mut Random) -> Vec<u8> {
     let over = random.below(2);
     let mut model = small();
-    match random.below(10) {
+    match random.below(12) {
         0 => return padded(random, 32_768 + over),
         1 => long_name(random, &mut model, 31 + over),
         2 => model.channels.extend((1..16 + over).map(|i| (format!("d{i}"), false))),
@@ -19,6 +19,9 @@ pub fn at_a_limit(random: &mut Random) -> Vec<u8> {
         6 => model.locations[0].1 = vec![comparison(*random.pick(&INVARIANT_SIGNS), 3); 4 + over],
         7 => model.edges[0].guard = vec![comparison(*random.pick(&SIGNS), 3); 4 + over],
         8 => model.edges[0].guard = vec![comparison(*random.pick(&SIGNS), 1_000 + over)],
+        9 => large_assignment(random, &mut model, 1_000 + over),
+        // Their number is not limited.
+        10 => model.edges[0].assignments = (0..random.between(1, 400)).map(|_| assignment(random.below(9))).collect(),
         _ => many_states(random, &mut model),
     }
     if random.chance(25) {
@@ -36,17 +39,22 @@ pub fn at_a_limit(random: &mut Random) -> Vec<u8> {
 fn spoil_last(random: &mut Random, model: &mut Model) {
     let name = random.pick(&["P", "L", "x", "c", "unknown", "n23456789_123456789_123456789_12"]).to_string();
     let last = model.edges.len() - 1;
-    match random.below(5) {
+    match random.below(6) {
         0 => model.channels.last_mut().expect("a channel").0 = name,
         1 => *model.clocks.last_mut().expect("a clock") = name,
         2 => model.locations.last_mut().expect("a location").0 = name,
         3 => model.edges[last].source = name,
+        4 => model.edges[last].assignments.push(Assignment { clock: name, value: 0 }),
         _ => model.edges[last].guard.last_mut().expect("a comparison").clock = name,
     }
 }
 
 fn comparison(sign: &'static str, bound: usize) -> Comparison {
     Comparison { clock: "x".to_string(), sign, bound }
+}
+
+fn assignment(value: usize) -> Assignment {
+    Assignment { clock: "x".to_string(), value }
 }
 
 fn output(sign: &'static str, bound: usize) -> Edge {
@@ -56,7 +64,7 @@ fn output(sign: &'static str, bound: usize) -> Edge {
         guard: vec![comparison(sign, bound)],
         channel: "c".to_string(),
         input: false,
-        resets: Vec::new(),
+        assignments: Vec::new(),
     }
 }
 
@@ -101,7 +109,18 @@ fn long_name(random: &mut Random, model: &mut Model, length: usize) {
     }
 }
 
-/// Around 4,096 states or far over.
+/// An assignment to a value, alone or with others before or behind it.
+fn large_assignment(random: &mut Random, model: &mut Model, value: usize) {
+    let assignments = &mut model.edges[0].assignments;
+    assignments.push(assignment(value));
+    match random.below(3) {
+        0 => assignments.push(assignment(random.below(3))),
+        1 => assignments.insert(0, assignment(random.below(3))),
+        _ => (),
+    }
+}
+
+/// Around 4,096 states or far over, by comparisons or by assignments.
 fn many_states(random: &mut Random, model: &mut Model) {
     let locations = random.between(1, 32);
     model.locations.extend((1..locations).map(|i| (format!("M{i}"), Vec::new())));
@@ -113,7 +132,10 @@ fn many_states(random: &mut Random, model: &mut Model) {
             1 => least.min(1_000),
             _ => least.min(1_002) - 2,
         };
-        model.edges[0].guard.push(Comparison { clock, sign: *random.pick(&SIGNS), bound });
+        match random.chance(30) {
+            true => model.edges[0].assignments.push(Assignment { clock, value: bound }),
+            false => model.edges[0].guard.push(Comparison { clock, sign: *random.pick(&SIGNS), bound }),
+        }
     }
     model.edges[0].guard.truncate(4);
 }

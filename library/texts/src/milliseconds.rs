@@ -12,26 +12,33 @@ const VALUE_LIMIT: usize = 100_000;
 /// Digits of a numeral that is longer than any number of a machine.
 const MANY_DIGITS: usize = 400;
 
+/// Of a hundred texts, how many have a 0 in each assignment of 0 ticks, as an older build wants it at any tick length.
+const ZERO_AS_ZERO: usize = 70;
+
 /// A numeral of a text.
-struct Numeral {
-    place: Range<usize>,
-    /// Whether a clock is compared with it; the others are those of resets.
-    is_constant: bool,
+pub(crate) struct Numeral {
+    pub place: Range<usize>,
+    /// Whether a clock is set to it; the others are those that a clock is compared with.
+    pub is_assigned: bool,
 }
 
 /// The text with every constant, which is one of ticks, in milliseconds: each comes to the ticks that it was.
 pub fn in_milliseconds(random: &mut Random, text: &[u8], tick_length: usize) -> Vec<u8> {
-    let constants = numerals(text).into_iter().filter(|numeral| numeral.is_constant);
-    let written = constants.filter_map(|Numeral { place, .. }| {
+    let zero_as_zero = random.chance(ZERO_AS_ZERO);
+    let written = numerals(text).into_iter().filter_map(|Numeral { place, is_assigned }| {
         let ticks = value(&text[place.clone()])?;
         let zeros = if random.chance(5) { random.below(MANY_DIGITS) } else { 0 };
-        let written = format!("{}{}", "0".repeat(zeros), milliseconds(random, ticks, tick_length));
+        let milliseconds = match is_assigned && ticks == 0 && zero_as_zero {
+            true => 0,
+            false => milliseconds(random, ticks, tick_length),
+        };
+        let written = format!("{}{milliseconds}", "0".repeat(zeros));
         Some((place, written))
     });
     replaced(text, &written.collect::<Vec<_>>())
 }
 
-/// The text with one of its numerals, a constant or that of a reset, as another one: one more or less, the largest that
+/// The text with one of its numerals, in a comparison or in an assignment, as another one: one more or less, the largest that
 /// passes at this tick length or the one above it, or one that is longer than any number of a machine.
 pub fn with_other_numeral(random: &mut Random, text: &[u8], tick_length: usize) -> Vec<u8> {
     let numerals = numerals(text);
@@ -71,13 +78,13 @@ fn milliseconds(random: &mut Random, ticks: usize, tick_length: usize) -> usize 
 }
 
 /// The value of some digits, unless it is too large to be worth writing anew.
-fn value(digits: &[u8]) -> Option<usize> {
+pub(crate) fn value(digits: &[u8]) -> Option<usize> {
     let number: usize = std::str::from_utf8(digits).ok()?.parse().ok()?;
     Some(number).filter(|number| *number <= VALUE_LIMIT)
 }
 
 /// The text with what stands at some places, which rise, as something else.
-fn replaced(text: &[u8], parts: &[(Range<usize>, String)]) -> Vec<u8> {
+pub(crate) fn replaced(text: &[u8], parts: &[(Range<usize>, String)]) -> Vec<u8> {
     let (mut made, mut from) = (Vec::new(), 0);
     for (place, new) in parts {
         made.extend_from_slice(&text[from..place.start]);
@@ -89,14 +96,14 @@ fn replaced(text: &[u8], parts: &[(Range<usize>, String)]) -> Vec<u8> {
 }
 
 /// The numerals after a sign or after `=`, in the order of their places. A damaged text may have others.
-fn numerals(text: &[u8]) -> Vec<Numeral> {
+pub(crate) fn numerals(text: &[u8]) -> Vec<Numeral> {
     let mut numerals = Vec::new();
     let mut at = 0;
     while at < text.len() {
         let length = text[at..].iter().position(|byte| !is_name_part(*byte)).unwrap_or(text.len() - at);
         let place = at..at + length;
         if length > 0 && text[place.clone()].iter().all(u8::is_ascii_digit) {
-            numerals.extend(is_constant(&text[..at]).map(|is_constant| Numeral { place, is_constant }));
+            numerals.extend(is_assigned(&text[..at]).map(|is_assigned| Numeral { place, is_assigned }));
         }
         at += length + 1;
     }
@@ -107,11 +114,12 @@ fn is_name_part(byte: u8) -> bool {
     byte.is_ascii_alphanumeric() || byte == b'_'
 }
 
-/// Whether what stands before a numeral ends in the sign of a comparison; `None` where in no sign and no `=` either.
-fn is_constant(before: &[u8]) -> Option<bool> {
+/// Whether what stands before a numeral ends in `=`; `None` where it ends neither in that nor in the sign of a
+/// comparison.
+fn is_assigned(before: &[u8]) -> Option<bool> {
     match before.trim_ascii_end() {
-        [.., b'<' | b'>'] | [.., b'<' | b'>' | b'=', b'='] => Some(true),
-        [.., b'='] => Some(false),
+        [.., b'<' | b'>'] | [.., b'<' | b'>' | b'=', b'='] => Some(false),
+        [.., b'='] => Some(true),
         _ => None,
     }
 }

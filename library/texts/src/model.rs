@@ -9,6 +9,13 @@ pub struct Comparison {
     pub bound: usize,
 }
 
+/// A clock set to a number of ticks. Of several assignments of one clock in an edge the last one counts.
+#[derive(Clone, Debug, PartialEq)]
+pub struct Assignment {
+    pub clock: String,
+    pub value: usize,
+}
+
 #[derive(Clone, Debug, PartialEq)]
 pub struct Edge {
     pub source: String,
@@ -16,7 +23,7 @@ pub struct Edge {
     pub guard: Vec<Comparison>,
     pub channel: String,
     pub input: bool,
-    pub resets: Vec<String>,
+    pub assignments: Vec<Assignment>,
 }
 
 #[derive(Clone, Debug, PartialEq)]
@@ -30,7 +37,8 @@ pub struct Model {
     pub edges: Vec<Edge>,
 }
 
-/// Of a hundred random models, how many have edges doubled.
+/// Of a hundred random models, how many have clocks that start late, and how many have edges doubled.
+const LATE: usize = 60;
 const DOUBLED: usize = 35;
 
 pub const SIGNS: [&str; 5] = ["<=", ">=", "==", "<", ">"];
@@ -46,6 +54,12 @@ impl Comparison {
             (">", bound) => (">=", bound + 1),
             as_it_was => as_it_was,
         };
+    }
+}
+
+impl Assignment {
+    pub(crate) fn to_zero(clock: impl Into<String>) -> Assignment {
+        Assignment { clock: clock.into(), value: 0 }
     }
 }
 
@@ -84,6 +98,9 @@ impl Model {
         for i in 0..count {
             model.add_edges(random, i);
         }
+        if random.chance(LATE) {
+            model.start_late(random);
+        }
         if random.chance(DOUBLED) {
             model.double_some(random);
         }
@@ -91,7 +108,7 @@ impl Model {
     }
 
     /// The largest constant: the more clocks, the smaller, to keep the number of states small.
-    fn top(&self) -> usize {
+    pub(crate) fn top(&self) -> usize {
         [0, 6, 2, 1][self.clocks.len()]
     }
 
@@ -158,20 +175,20 @@ impl Model {
         }
     }
 
-    /// An edge to a random target; the clocks of the target's invariant are mostly set to 0.
+    /// An edge to a random target; the clocks of the target's invariant are mostly set to 0, as are some others.
     fn edge(&self, random: &mut Random, location: usize, channel: &str, input: bool, guard: Vec<Comparison>) -> Edge {
         let (target, invariant) = random.pick(&self.locations).clone();
         let source = self.locations[location].0.clone();
         let needed = target != source && random.chance(if input { 94 } else { 50 });
         let named = |clock: &String| invariant.iter().any(|comparison| comparison.clock == *clock);
         let reset = |clock: &&String| (needed && named(clock)) || random.chance(25);
-        let mut resets: Vec<String> = self.clocks.iter().filter(reset).cloned().collect();
-        random.shuffle(&mut resets);
-        Edge { source, target, guard, channel: channel.to_string(), input, resets }
+        let mut assignments: Vec<Assignment> = self.clocks.iter().filter(reset).map(Assignment::to_zero).collect();
+        random.shuffle(&mut assignments);
+        Edge { source, target, guard, channel: channel.to_string(), input, assignments }
     }
 
-    /// A model near this one: a constant, an edge, an invariant or a reset differs, an edge is doubled, or only the
-    /// order or the signs differ.
+    /// A model near this one: a constant, an edge, an invariant or an assignment differs, an edge is doubled, or only
+    /// the order or the signs differ.
     pub fn varied(&self, random: &mut Random) -> Model {
         let mut model = self.clone();
         for _ in 0..random.between(1, 4) {
@@ -191,12 +208,14 @@ impl Model {
 
     fn vary(&mut self, random: &mut Random) {
         let clocks = self.clocks.clone();
-        match random.below(8) {
+        match random.below(9) {
             0 => self.edges.retain(|edge| edge.input || random.chance(70)),
             1 if !self.edges.is_empty() => {
                 let index = random.below(self.edges.len());
-                let edge = &mut self.edges[index];
-                edge.resets = clocks.into_iter().filter(|_| random.chance(40)).collect();
+                let most = if random.chance(30) { self.top() } else { 0 };
+                let clocks: Vec<String> = clocks.into_iter().filter(|_| random.chance(40)).collect();
+                let assigned = clocks.into_iter().map(|clock| Assignment { clock, value: random.between(0, most) });
+                self.edges[index].assignments = assigned.collect();
             }
             2 if !self.edges.is_empty() => {
                 let extra = self.comparisons(random, 1, &SIGNS);
@@ -216,6 +235,7 @@ impl Model {
             }
             5 => self.restate_some(random),
             6 => self.double_some(random),
+            7 => self.vary_value(random),
             _ => self.vary_output(random),
         }
     }
@@ -288,8 +308,8 @@ impl Model {
 impl Edge {
     fn words(&self) -> String {
         let guard = optional("guard", &self.guard.iter().map(comparison_words).collect::<Vec<_>>(), " && ", ";");
-        let resets: Vec<String> = self.resets.iter().map(|clock| format!("{clock} = 0")).collect();
-        let assign = optional("assign", &resets, " , ", ";");
+        let assigned = self.assignments.iter().map(|Assignment { clock, value }| format!("{clock} = {value}"));
+        let assign = optional("assign", &assigned.collect::<Vec<_>>(), " , ", ";");
         let mark = if self.input { "?" } else { "!" };
         format!("{} -> {} {{ {guard} sync {} {mark} ; {assign} }}", self.source, self.target, self.channel)
     }

@@ -1,7 +1,7 @@
 //! Parallel edges (SPECIFICATION 7.2): models with edges doubled, exactly or with a difference, and whole texts with
 //! each edge twice.
 
-use crate::model::{Comparison, Edge, Model, SIGNS};
+use crate::model::{Assignment, Comparison, Edge, Model, SIGNS};
 use crate::random::Random;
 
 /// Limits of SPECIFICATION 4.3.
@@ -51,22 +51,25 @@ impl Model {
         }
     }
 
-    /// An edge that leads to the states of a given one: that one again, with its resets in another order and one of
-    /// them twice, with more comparisons, or, where a clock is at 0, with or without that clock's reset.
+    /// An edge that leads to the states of a given one: that one again, with its assignments in another order and one
+    /// more that is overridden, with more comparisons, or, where a clock is at the value to which one of the two sets
+    /// it, with or without that assignment.
     fn parallel(&self, random: &mut Random, edge: &Edge) -> Edge {
         let mut double = edge.clone();
         match random.below(10) {
             0..=3 => (),
             4..=5 => {
-                double.resets.extend(edge.resets.first().cloned());
-                random.shuffle(&mut double.resets);
+                double.assignments = edge.last_assignments();
+                random.shuffle(&mut double.assignments);
+                double.override_one(random, self.top());
             }
             6..=7 => double.guard.extend(self.comparisons(random, 2, &SIGNS)),
             _ if self.clocks.is_empty() => (),
             _ => {
                 let clock = random.pick(&self.clocks).clone();
-                double.toggle(&clock);
-                double.guard.push(at_zero(random, clock));
+                let value = edge.assigned(&clock).unwrap_or_else(|| self.low_value(random));
+                double.toggle(&clock, value);
+                double.guard.push(at(random, clock, value));
             }
         }
         // A guard over the limit is narrowed no further; without its end it would be wider than that of the first edge.
@@ -76,31 +79,49 @@ impl Model {
         }
     }
 
-    /// An edge by the same channel that may lead elsewhere: it has another target, another reset, or no guard.
+    /// An edge by the same channel that may lead elsewhere: it has another target, another assignment, or no guard.
     fn differing(&self, random: &mut Random, edge: &Edge) -> Edge {
         let mut double = edge.clone();
-        match random.below(5) {
+        match random.below(6) {
             0..=1 => double.target = random.pick(&self.locations).0.clone(),
-            2..=3 if !self.clocks.is_empty() => double.toggle(random.pick(&self.clocks)),
+            2..=3 if !self.clocks.is_empty() => {
+                let (clock, value) = (random.pick(&self.clocks), self.low_value(random));
+                double.toggle(clock, value);
+            }
+            4 if !double.assignments.is_empty() => {
+                let last = double.assignments.len() - 1;
+                double.assignments[last].value = self.low_value(random);
+            }
             _ => double.guard.clear(),
         }
         double
     }
-}
 
-impl Edge {
-    /// Resets a clock that was not reset, and does not reset one that was.
-    fn toggle(&mut self, clock: &String) {
-        match self.resets.contains(clock) {
-            true => self.resets.retain(|reset| reset != clock),
-            false => self.resets.push(clock.clone()),
+    /// Half of the time 0, else any value up to the largest constant.
+    fn low_value(&self, random: &mut Random) -> usize {
+        match random.chance(50) {
+            true => 0,
+            false => random.between(0, self.top()),
         }
     }
 }
 
-/// That a clock is at 0, by one of three signs.
-fn at_zero(random: &mut Random, clock: String) -> Comparison {
-    let (sign, bound) = *random.pick(&[("==", 0), ("<=", 0), ("<", 1)]);
+impl Edge {
+    /// Sets a clock that was not assigned to a value, and does not assign one that was.
+    fn toggle(&mut self, clock: &String, value: usize) {
+        match self.assigned(clock) {
+            Some(_) => self.assignments.retain(|assignment| assignment.clock != *clock),
+            None => self.assignments.push(Assignment { clock: clock.clone(), value }),
+        }
+    }
+}
+
+/// That a clock is at a value; at 0 by one of three signs.
+fn at(random: &mut Random, clock: String, value: usize) -> Comparison {
+    let (sign, bound) = match value {
+        0 => *random.pick(&[("==", 0), ("<=", 0), ("<", 1)]),
+        value => ("==", value),
+    };
     Comparison { clock, sign, bound }
 }
 

@@ -1,4 +1,4 @@
-//! The ten posts of SPECIFICATION 16.1.
+//! The eleven posts of SPECIFICATION 16.1.
 
 fn build(bound: usize, invariant: bool, late: bool, rearm: bool) -> Vec<u8> {
     let wait = if invariant { format!("Wait {{ x <= {bound} }}") } else { "Wait".to_string() };
@@ -65,6 +65,11 @@ pub fn sheet() -> Vec<u8> {
 pub fn twice() -> Vec<u8> {
     const PASS: &str = "Wait -> Done { sync pass?; },\n";
     changed(&[(PASS, &PASS.repeat(2))])
+}
+
+/// A spike sets the clock to 1: the unit that it wakes has used a tick already.
+pub fn woken() -> Vec<u8> {
+    changed(&[("Wait -> Wait { sync spike?; }", "Wait -> Wait { sync spike?; assign x = 1; }")])
 }
 
 /// The post with parts replaced, each of which must be there.

@@ -1,14 +1,16 @@
 //! Random texts that are implementations (SPECIFICATION 8.6): outputs come at a deadline and not before.
 
-use crate::model::{Comparison, Edge, Model};
+use crate::model::{Assignment, Comparison, Edge, Model};
 use crate::random::Random;
 
-/// Of a hundred models, how many have parallel edges.
+/// Of a hundred models, how many have clocks that start late, and how many have parallel edges.
+const LATE: usize = 40;
 const DOUBLED: usize = 25;
 
 /// A random model of one to `locations` locations and one to three clocks that is an implementation. A location rests,
 /// without an invariant and an output, or waits: one clock has a deadline, and outputs come at that time alone. An edge
-/// to another location sets the clock of that one's deadline to 0. Which locations are reached is left to chance.
+/// to another location sets the clock of that one's deadline, to 0 or to a later time that the deadline allows; a few that
+/// start late set a clock past a deadline. Which locations are reached is left to chance.
 pub fn urgent(random: &mut Random, locations: usize) -> Model {
     let count = random.between(1, locations);
     let mut model = Model {
@@ -28,6 +30,9 @@ pub fn urgent(random: &mut Random, locations: usize) -> Model {
     for i in 0..count {
         let edges = edges(random, &model, i);
         model.edges.extend(edges);
+    }
+    if random.chance(LATE) {
+        model.start_late(random);
     }
     match random.chance(DOUBLED) {
         true => model.with_parallel_edges(random),
@@ -67,8 +72,8 @@ fn edge(random: &mut Random, model: &Model, location: usize, channel: String, in
     let source = model.locations[location].0.clone();
     let named = |clock: &String| invariant.iter().any(|comparison| comparison.clock == *clock);
     let reset = |clock: &&String| (target != source && named(clock)) || random.chance(25);
-    let resets = model.clocks.iter().filter(reset).cloned().collect();
-    Edge { source, target, guard: Vec::new(), channel, input, resets }
+    let assignments = model.clocks.iter().filter(reset).map(Assignment::to_zero).collect();
+    Edge { source, target, guard: Vec::new(), channel, input, assignments }
 }
 
 /// The time at which a deadline ends, by one of three signs.

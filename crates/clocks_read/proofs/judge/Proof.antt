@@ -35,10 +35,10 @@ judge-spec =
     (tie.spec
     (λ c. search needs)
     (λ c κs. search needs)
+    returns
     (λ c. search needs)
     judge-requires
     answer-of-requires
-    returns
     (λ c. search needs)
     (λ c. search needs)
     returns-2)

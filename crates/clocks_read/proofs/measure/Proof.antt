@@ -46,8 +46,8 @@ measure-spec =
     (λ c κs. search needs)
     (λ c. search needs)
     (λ c κs. search needs)
+    returns
     (λ c. search needs)
     ranges-of-requires
     state-count-of-requires
-    returns
     returns-2)

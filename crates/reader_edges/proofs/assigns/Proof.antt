@@ -18,7 +18,7 @@ returns c = rw (
 
 returns-2 : tie.Need-returns-2
 unfolding assigns
-returns-2 c = rw (sym (c .before .before .ahead .ensures), c .before .if1 .left, c .no-resets .ensures)
+returns-2 c = rw (sym (c .before .before .ahead .ensures), c .before .if1 .left, c .no-assignments .ensures)
 
 pub assigns-spec : {M : Type 1} → statement M
 assigns-spec =

@@ -11,10 +11,10 @@ use Rattle.reader_numbers.proofs.write_channels.Statement.{statement}
 use Rattle.reader_numbers.proofs.write_channels.Tie as tie
 
 abbrev Inv-loop : tie.InvT-loop
-Inv-loop out₀ t i₀ out i = Written channel-limit channels-place (channel-row t) out₀ out i
+Inv-loop out₀ channels i₀ out i = Written channel-limit channels-place (channel-row channels) out₀ out i
 
 abbrev μ-loop : tie.MeasureT-loop
-μ-loop out₀ t i₀ out i = channel-limit - i
+μ-loop out₀ channels i₀ out i = channel-limit - i
 
 loop-again : tie.Need-loop-again Inv-loop μ-loop
 loop-again c =

@@ -11,10 +11,10 @@ use Rattle.reader_numbers.proofs.write_clocks.Statement.{statement}
 use Rattle.reader_numbers.proofs.write_clocks.Tie as tie
 
 abbrev Inv-loop : tie.InvT-loop
-Inv-loop out₀ t i₀ out i = Written clock-limit clocks-place (clock-row t) out₀ out i
+Inv-loop out₀ clocks i₀ out i = Written clock-limit clocks-place (clock-row clocks) out₀ out i
 
 abbrev μ-loop : tie.MeasureT-loop
-μ-loop out₀ t i₀ out i = clock-limit - i
+μ-loop out₀ clocks i₀ out i = clock-limit - i
 
 loop-again : tie.Need-loop-again Inv-loop μ-loop
 loop-again c =

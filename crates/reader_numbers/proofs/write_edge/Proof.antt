@@ -2,7 +2,7 @@
 use mathlib.Core.Path.{refl}
 use mathlib.Core.List.{[], _∷_, _++_}
 use native.Mathlib.Omega.{arith}
-use Rattle.reader_numbers.specs.Numbers.{label-numbers, constraint-numbers, edge-numbers}
+use Rattle.reader_numbers.specs.Numbers.{label-numbers, constraint-numbers, assignments-numbers, edge-numbers}
 use Rattle.reader_numbers.proofs.Lengths.{constraint-length}
 use Rattle.reader_numbers.proofs.Laws.{joined}
 use borrow.Author.Needs.{needs}
@@ -13,40 +13,26 @@ returns : tie.Need-returns
 unfolding edge-numbers
 returns c =
     let args = c .before .before .before .before .before .before .before .before .before .before .before .before
-    .before .before .before .before .before .before .before .before .before .before .before .before .args in
+    .before .before .before .before .before .before .before .before .args in
     let out = args .out .now in
     let at = args .at in
-    let e = args .t3 in
+    let e = args .e in
     let ends = e .source ∷ e .target ∷ [] in
     let label = label-numbers (e .label) in
     let guard = constraint-numbers (e .guard) in
     let labelled = joined out at ends label (c .before .before .before .before .before .before .before .before
-    .before .before .before .before .before .before .before .before .before .before .before .before .before .put-two
-    .ensures) (c .before .before .before .before .before .before .before .before .before .before .before .before
-    .before .before .before .before .before .write-label .ensures) refl in
+    .before .before .before .before .before .before .before .put-two .ensures) (c .before .before .before .before
+    .before .before .before .before .before .before .before .write-label .ensures) refl in
     let guarded = joined out at (ends ++ label) guard labelled (c .before .before .before .before .before .before
-    .before .before .before .before .before .before .write-constraint .ensures) refl in
-    rw (
-      ← c .before .before .before .before .before .before .before .before .reset-number .ensures,
-      ← c .before
-          .before .before .before .before .before .reset-number2 .ensures,
-      ← c .before .before .before .before
-          .reset-number3 .ensures,
-    )
-    (joined out at ((ends ++ label) ++ guard) _ guarded (c .before .before .put-three .ensures)
-    (omega (arith, constraint-length (e .guard))))
+    .write-constraint .ensures) refl in
+    joined out at ((ends ++ label) ++ guard) (assignments-numbers e) guarded (c .before .before .write-assignments .ensures)
+    (omega (arith, constraint-length (e .guard)))
 
 pub write-edge-spec : {M : Type 1} → statement M
 write-edge-spec =
     tie.close
     (tie.spec
     (λ c. search needs)
-    (λ c. search needs)
-    (λ c κs. search needs)
-    (λ c. search needs)
-    (λ c κs. search needs)
-    (λ c. search needs)
-    (λ c κs. search needs)
     (λ c. search needs)
     (λ c κs. search needs)
     (λ c. search needs)

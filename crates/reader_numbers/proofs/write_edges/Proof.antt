@@ -11,10 +11,10 @@ use Rattle.reader_numbers.proofs.write_edges.Statement.{statement}
 use Rattle.reader_numbers.proofs.write_edges.Tie as tie
 
 abbrev Inv-loop : tie.InvT-loop
-Inv-loop out₀ t i₀ out i = Written edge-limit edges-place (edge-row t) out₀ out i
+Inv-loop out₀ edges i₀ out i = Written edge-limit edges-place (edge-row edges) out₀ out i
 
 abbrev μ-loop : tie.MeasureT-loop
-μ-loop out₀ t i₀ out i = edge-limit - i
+μ-loop out₀ edges i₀ out i = edge-limit - i
 
 loop-again : tie.Need-loop-again Inv-loop μ-loop
 loop-again c =

@@ -11,10 +11,10 @@ use Rattle.reader_numbers.proofs.write_locations.Statement.{statement}
 use Rattle.reader_numbers.proofs.write_locations.Tie as tie
 
 abbrev Inv-loop : tie.InvT-loop
-Inv-loop out₀ t i₀ out i = Written location-limit locations-place (location-row t) out₀ out i
+Inv-loop out₀ locations i₀ out i = Written location-limit locations-place (location-row locations) out₀ out i
 
 abbrev μ-loop : tie.MeasureT-loop
-μ-loop out₀ t i₀ out i = location-limit - i
+μ-loop out₀ locations i₀ out i = location-limit - i
 
 loop-again : tie.Need-loop-again Inv-loop μ-loop
 loop-again c =

@@ -1,4 +1,4 @@
--- The locations, the guard, the label, the resets, the brace.
+-- The locations, the guard, the label, the assignments, the brace.
 use borrow.Author.Needs.{needs}
 use Rattle.written.specs.Written.{edge-tokens}
 use Rattle.writer_tokens.specs.TokenLaws.{tokens-then}
@@ -14,7 +14,8 @@ returns c =
     (tokens-then (c .before .before .before .before .before .before .before .before .before .before .before .before
     .before .before .before .before .put-constraint .ensures)
     (tokens-then (c .before .before .before .before .before .before .before .before .before .before .before .before
-    .put-label .ensures) (tokens-then (c .before .before .before .before .before .before .before .put-resets .ensures)
+    .put-label .ensures) (tokens-then (c .before .before .before .before .before .before .before .put-assignments
+    .ensures)
     (c .before .before .put-token .ensures))))
 
 pub put-edge-spec : {M : Type 1} → statement M

@@ -1,4 +1,4 @@
--- A comma, or the word that opens the resets.
+-- A comma, or the word that opens the assignments.
 use borrow.Author.Needs.{needs}
 use Rattle.writer_parts.proofs.put_lead.Statement.{statement}
 use Rattle.writer_parts.proofs.put_lead.Tie as tie

@@ -32,5 +32,5 @@ pub fn reached(record: &Record, state: usize, channel: usize) -> Vec<usize> {
         let fits = edge.source == location && edge.label.channel() == channel;
         fits && grid.domain(edge, &rooms).holds(values)
     };
-    record.edges.iter().filter(gives).map(|edge| edge.target * grid.volume + offset(&grid.kept(edge), values)).collect()
+    record.edges.iter().filter(gives).map(|edge| grid.assigned(edge) + offset(&grid.kept(edge), values)).collect()
 }
