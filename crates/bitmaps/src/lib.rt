@@ -1,4 +1,6 @@
 // Bitmaps: bytes whose bits, the high bit of byte 0 first, are the entries of a table of Booleans.
+#![tactic(auto)]
+
 ghost use Rattle.std.specs.Prelude.{◌≡◌, true, false, ℕ, ◌+◌, ◌-◌, ◌/◌, ◌%◌, ◌^◌, ◌≤◌, ◌<◌, length, get_or, set};
 ghost use Rattle.bitmaps.specs.Bits.{bit_at, num, written};
 ghost use Rattle.bitmaps.specs.Packed.{bytes_for, Count};

@@ -1,5 +1,7 @@
 // Bytes and decimals put into a slice. Each function puts bytes at a place and returns the place behind them; a byte for
 // which the slice has no place is dropped, so no function asks for a length.
+#![tactic(auto)]
+
 ghost use Rattle.std.specs.Prelude.{[], ◌∷◌};
 ghost use Rattle.byte_slices.specs.Decimal.{decimal};
 ghost use Rattle.byte_slices.specs.Put.{Puts};

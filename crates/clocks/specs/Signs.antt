@@ -37,3 +37,4 @@ counts_as_written q = go (eqb q.clock q.clock) (eqb_refl q.clock)
   where
     go : (b : Bool) → T b → cond b q.bound 0 ≡ q.bound
     go true h = refl
+    go false h = elim h [ ]

@@ -1,5 +1,7 @@
 // The operation that reads a text (SPECIFICATION 12.1): it is judged by codes 24 and 1 to 11, and its record and state
 // count are returned.
+#![tactic(auto)]
+
 ghost use Rattle.std.specs.Prelude.{◌≡◌, length};
 ghost use Rattle.clocks.specs.States.{state_count};
 ghost use Rattle.clocks_table.specs.Room.{Room};
@@ -15,7 +17,7 @@ use reader_record::Text;
 use refusals::{Refusal, Verdict};
 
 // What reading gives (SPECIFICATION 12.1). A refused text has the fixed empty record and no states.
-#[derive(Drop)]
+#[derive(Clone, Copy)]
 pub struct Reading {
     pub answer: Verdict,
     pub text: Text,
@@ -24,7 +26,7 @@ pub struct Reading {
 
 // A text that is parsed, the ranges of its clocks and the number of its states. Beside a refusal the ranges are 1 and
 // there are no states.
-#[derive(Drop)]
+#[derive(Clone, Copy)]
 pub struct Measured {
     pub parsed: Parsed,
     pub ranges: Ranges,

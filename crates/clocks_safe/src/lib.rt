@@ -1,5 +1,7 @@
 // The safe states of a system whose moves stand in a move table: from the states whose invariant holds, those that fail
 // the test of a safe state are taken out until none does.
+#![tactic(auto)]
+
 ghost use Rattle.std.specs.Prelude.{◌≡◌, true, false, ◌+◌, ◌*◌, ◌/◌, ◌≤◌, ◌<◌, length, set};
 ghost use Rattle.bitmaps.specs.Bits.{bit_at};
 ghost use Rattle.move_tables.specs.Moves.{Bounded, no_move};

@@ -3,6 +3,8 @@
 // nothing changes, and runs are found by their length. It shares nothing with the operations but the record of a text, in which
 // constants are in ticks already, and is proved safe and ending, no more: a program compares what it says with what the
 // operations answer.
+#![tactic(auto)]
+
 pub mod late;
 pub mod moves;
 pub mod numbers;

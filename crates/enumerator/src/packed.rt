@@ -17,7 +17,7 @@ const ZERO: usize = b'0' as usize;
 const HEADER_LIMIT: usize = 13;
 
 // The first `length` bytes are the header.
-#[derive(Drop)]
+#[derive(Clone, Copy)]
 struct Header {
     bytes: [u8; HEADER_LIMIT],
     length: usize,

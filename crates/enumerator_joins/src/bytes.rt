@@ -8,7 +8,7 @@ use reader_record::{Comparison, Constraint, Edge, Label, Name, Sign, Text};
 
 // What the tokens of an item depend on: the underscores of names, the numbers of clocks of both texts, and the number
 // of the right's locations.
-#[derive(Drop)]
+#[derive(Clone, Copy)]
 pub struct Layout {
     pub underscores: usize,
     pub left_clocks: usize,
@@ -17,7 +17,7 @@ pub struct Layout {
 }
 
 // How far the edges were found, and how many.
-#[derive(Drop)]
+#[derive(Clone, Copy)]
 struct Found {
     at: usize,
     edges: usize,

@@ -11,7 +11,7 @@ use reader_record::{Edge, Label, Text};
 const PAST_LARGEST: usize = 2;
 
 // The right's number of the channel of each edge of two texts, NOWHERE past the last edge.
-#[derive(Drop)]
+#[derive(Clone, Copy)]
 pub struct Channels {
     pub left: [usize; EDGE_LIMIT],
     pub right: [usize; EDGE_LIMIT],

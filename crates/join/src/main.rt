@@ -1,9 +1,12 @@
 // Writes the joined text of left.xta and right.xta to standard output, or prints the refusal (SPECIFICATION 14.8). Crate
 // `printed_join` makes what is printed; this program reads the files and writes it out.
+#![tactic(auto)]
+
 ghost use Rattle.std.specs.Prelude.{◌≡◌, length};
 ghost use Rattle.printed_join.specs.Prints.{join_room};
 
 use limits::LARGEST_TEXT;
+use std::io;
 
 // Room for the longest text. It stands behind a function because antt must not unfold an array of this length.
 fn room() -> [u8; LARGEST_TEXT]
@@ -12,12 +15,12 @@ fn room() -> [u8; LARGEST_TEXT]
     [0u8; LARGEST_TEXT]
 }
 
-fn main() {
-    let mut left = io::large_buffer();
-    let n = programs::read_file(b"left.xta", &mut left);
-    let mut right = io::large_buffer();
-    let m = programs::read_file(b"right.xta", &mut right);
+fn main(rt: HostRuntime) -> io::Result<()> {
+    let mut left = programs::text_room();
+    let n = programs::read_file(&rt, b"left.xta", &mut left);
+    let mut right = programs::text_room();
+    let m = programs::read_file(&rt, b"right.xta", &mut right);
     let mut out = room();
     let size = printed_join::join(&left[..n], &right[..m], &mut out);
-    programs::put(&out[..size]);
+    programs::put(&rt, &out[..size])
 }

@@ -56,7 +56,8 @@ module _ (R : Config → Config → Config → Type 0) (only : (u x v w : Config
   both_left_more : (m n a d b : Moves) → Both R m a b → Both R n d b → Both R (also m n) (also a d) b
   unfolding also
   both_left_more m n Nothing d b h k = rw h k
-  both_left_more m n (One v) Nothing b h k = rw (k, also_nothing m) h
+  both_left_more m n (One v) Nothing b h k =
+      subst (λ (a : Moves). Both R a (One v) b) (sym (ap (also m) k ∙ also_nothing m)) h
   both_left_more m n (One v) (One x) b h k = ⊎_elim
       (λ e. subst (λ (a : Moves). Both R (also m n) a b) (sym (also_same v x e))
       (both_left_same m n v b h (subst (λ (y : Config). Both R n (One y) b) (sym e) k)))

@@ -30,7 +30,7 @@ use Rattle.reader_record.specs.Formed.{WellFormed}
 use Rattle.clocks.specs.Meaning.{clock_value, compares, met, holds, invariant, assigned, after, equal_config, one_if, also, gives, edge_move, edge_moves, ticked, tick_move, moves, start_of}
 use Rattle.clocks.specs.States.{most, constant_for, largest_in, largest_at, largest, values, ranges, state_count, cap, state, config, leads, state_moves, next, state_invariant, start_state, is_input, input, too_many, or_else, first_fault, fault, step_fault, state_fault, states_judged, judgement}
 use Rattle.clocks.specs.Accepted.{Accepted}
-use Rattle.pairing.specs.declared.Matched.TheVariants.{Equal as Equal-texts}
+use Rattle.pairing.specs.declared.Matched.TheVariants.{Equal as EqualTexts}
 use Rattle.pairing.specs.Channels.{WellNamed, EqualChannels, alike, first_from, lowest, partner, agree, matched, first_unmatched, verdict, unmatched, right_step}
 use Rattle.pairing.specs.Equal.{read_named, equal_when_nothing}
 use Rattle.clocks.specs.declared.Judged.TheVariants.{Clean}
@@ -223,7 +223,7 @@ pub rearm_accepted : Accepted rearm_record
 unfolding opened
 rearm_accepted = record { formed = formed_record rearm rearm_record rearm_read; clean = refl }
 
-nothing_unmatched : unmatched post post_record rearm rearm_record ≡ Equal-texts
+nothing_unmatched : unmatched post post_record rearm rearm_record ≡ EqualTexts
 unfolding opened
 nothing_unmatched = refl
 

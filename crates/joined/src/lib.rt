@@ -1,1 +1,2 @@
 // Specs only: the joining of two contract texts, from two records to one (SPECIFICATION 18).
+#![tactic(auto)]

@@ -2,6 +2,8 @@
 // records are joined, and the joined record is written (SPECIFICATION 12.10, 18). The text is written into an array
 // first, because a refusal leaves the slice as it came, and one byte more than the longest text tells that it is too
 // long.
+#![tactic(auto)]
+
 ghost use Rattle.std.specs.Prelude.{◌≡◌, length};
 ghost use Rattle.clocks.specs.States.{state_count};
 ghost use Rattle.clocks_states.specs.Parts.{Countable};
@@ -20,7 +22,7 @@ use refusals::{Refusal, Verdict};
 use two_texts::MeasuredTexts;
 
 // The length of the joined text, which stands at the front of the slice, or the refusal (SPECIFICATION 12.10).
-#[derive(Drop)]
+#[derive(Clone, Copy)]
 pub enum JoinAnswer {
     Written(usize),
     Refused(Refusal),

@@ -1,4 +1,6 @@
 // Pairs the edges of two texts that match, by left edge, then right (SPECIFICATION 18.4).
+#![tactic(auto)]
+
 ghost use Rattle.std.specs.Prelude.{◌≡◌, List, [], ◌++◌, ℕ, ◌≤◌, ◌<◌, length};
 ghost use Rattle.limits.specs.Limits.{edge_limit};
 ghost use Rattle.bitmaps.specs.Bits.{tab_from};
@@ -12,7 +14,7 @@ use reader_record::{Edge, Text};
 
 // The edges of the joined record: the first `count` of the list. A count above the limit says that there are more than
 // the limit, and the list is nothing then.
-#[derive(Drop)]
+#[derive(Clone, Copy)]
 pub struct Edges {
     pub list: [Edge; EDGE_LIMIT],
     pub count: usize,

@@ -1,4 +1,6 @@
 // Joins the items of two records: comparisons, guards and invariants, assignments, edges (SPECIFICATION 18.2 to 18.5).
+#![tactic(auto)]
+
 ghost use Rattle.std.specs.Prelude.{◌≡◌, ℕ, ◌+◌, ◌≤◌, ◌<◌, get_or};
 ghost use Rattle.limits.specs.Limits.{clock_limit, comparison_limit, location_limit};
 ghost use Rattle.reader_record.specs.Record.{no_assignment, comparison, written_once, channel};

@@ -1,5 +1,7 @@
 // The joined record of two texts: pairs of locations, channels by the edges, and whether the limits hold
 // (SPECIFICATION 18.1 to 18.5, 18.8).
+#![tactic(auto)]
+
 ghost use Rattle.std.specs.Prelude.{◌≡◌, false, cond, List, ℕ, ◌*◌, ◌≤◌, ◌<◌, length, get_or};
 ghost use Rattle.systems.specs.Tests.{all};
 ghost use Rattle.limits.specs.Limits.{channel_limit, location_limit, edge_limit};
@@ -19,7 +21,7 @@ use limits::{
 use reader_record::{Channel, Direction, Location, Name, Text};
 
 // Whether the joined record is within the limits, and if so, the record; else `text` is filling.
-#[derive(Drop)]
+#[derive(Clone, Copy)]
 pub struct Joining {
     pub fits: bool,
     pub text: Text,

@@ -1,5 +1,7 @@
 // The limits of a text (SPECIFICATION 4.3) and of the tick length (SPECIFICATION 4.7), and what follows from them.
 // Every other crate takes a limit from here.
+#![tactic(auto)]
+
 ghost use Rattle.std.specs.Prelude.{◌≡◌};
 ghost use Rattle.limits.specs.Limits.{tick_allowed};
 

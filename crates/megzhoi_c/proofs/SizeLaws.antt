@@ -5,16 +5,16 @@ use Prim.Native.Nat.{ℕ, ◌*◌, ◌≤◌}
 use native.Mathlib.Nat.{mul-le-mul_left, mul-le-mul_right}
 use native.Mathlib.Omega.{arith}
 use lib.Dec.{T, eqb, leb}
-use borrow.Author.Tests.{leb-true, not-true, not-false}
+use borrow.Author.Tests.{leb-true}
 use Rattle.limits.specs.Limits.{state_limit, pair_limit}
 use Rattle.megzhoi_c.specs.Sizes.{possible}
 
 -- what a function that asks for a test has found, by its answer r to it
-pub denied : {a : Bool} (r : Bool) → r ≡ a → not r ≡ true → a ≡ false
-denied r e h = sym e ∙ not-true r h
+pub denied : {a : Bool} (r : Bool) → r ≡ a → r ≡ false → a ≡ false
+denied r e h = sym e ∙ h
 
-pub granted : {a : Bool} (r : Bool) → r ≡ a → not r ≡ false → a ≡ true
-granted r e h = sym e ∙ not-false r h
+pub granted : {a : Bool} (r : Bool) → r ≡ a → r ≡ true → a ≡ true
+granted r e h = sym e ∙ h
 
 -- both parts of a test that is true
 left_part : (a b : Bool) → (a && b) ≡ true → a ≡ true

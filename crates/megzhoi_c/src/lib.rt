@@ -2,6 +2,8 @@
 // answer is four numbers: the code, 0 for success, is returned, and the file mark, p and q are written. Three more
 // functions say how long the slices are that a caller lends. `period` is the tick length in milliseconds, a whole
 // machine word of which every value is answered (SPECIFICATION 4.7, 15.1).
+#![tactic(auto)]
+
 ghost use Rattle.std.specs.Prelude.{◌≡◌, length, ◌&&◌};
 ghost use Rattle.clocks_read.specs.Reading.{read_outcome};
 ghost use Rattle.safe_states.specs.Outcome.{safe_outcome};
@@ -32,7 +34,7 @@ fn number_of_bool(b: bool) -> usize
 }
 
 // What a call returns: a refusal's code, file mark, p and q, or success, which is no refusal.
-#[derive(Drop)]
+#[derive(Clone, Copy)]
 pub struct Returned {
     pub code: usize,
     pub file: usize,
@@ -157,7 +159,7 @@ pub extern "C" fn megzhoi_read(
     p: &mut usize,
     q: &mut usize,
 ) -> usize
-    ensures q_after { four result file.new p.new q.new ≡
+    ensures four_numbers { four result file.new p.new q.new ≡
         of_verdict (read_outcome period text.now).answer
         (read_outcome period text.now).states }
     ensures out_after { out.new ≡ recorded (read_outcome period text.now).answer
@@ -182,7 +184,7 @@ pub extern "C" fn megzhoi_safe_states(
     p: &mut usize,
     q: &mut usize,
 ) -> usize
-    ensures q_after { four result file.new p.new q.new ≡
+    ensures four_numbers { four result file.new p.new q.new ≡
         of_safe (safe_outcome period text.now keep.old).answer }
     ensures keep_after { keep.new ≡ (safe_outcome period text.now keep.old).keep }
 {
@@ -222,8 +224,8 @@ pub extern "C" fn megzhoi_search(
     p: &mut usize,
     q: &mut usize,
 ) -> usize
-    ensures q_after { four result file.new p.new q.new ≡ of_search (search_outcome period left.now right.now keep.old (length back.old)
-        (length line.old) run.old).answer }
+    ensures four_numbers { four result file.new p.new q.new ≡ of_search (search_outcome
+        period left.now right.now keep.old (length back.old) (length line.old) run.old).answer }
     ensures keep_after { keep.new ≡
         (search_outcome period left.now right.now keep.old (length back.old)
         (length line.old) run.old).keep }
@@ -251,8 +253,8 @@ pub extern "C" fn megzhoi_check(
     p: &mut usize,
     q: &mut usize,
 ) -> usize
-    ensures q_after { four result file.new p.new q.new ≡ of_check (check_outcome period left.now right.now keep.old
-        table.now).answer }
+    ensures four_numbers { four result file.new p.new q.new ≡
+        of_check (check_outcome period left.now right.now keep.old table.now).answer }
     ensures keep_after { keep.new ≡
         (check_outcome period left.now right.now keep.old table.now).keep }
 {
@@ -273,8 +275,8 @@ pub extern "C" fn megzhoi_widest(
     p: &mut usize,
     q: &mut usize,
 ) -> usize
-    ensures q_after { four result file.new p.new q.new ≡ of_widest (widest_outcome period left.now right.now keep.old
-        table.old).answer }
+    ensures four_numbers { four result file.new p.new q.new ≡
+        of_widest (widest_outcome period left.now right.now keep.old table.old).answer }
     ensures keep_after { keep.new ≡
         (widest_outcome period left.now right.now keep.old
         table.old).keep }
@@ -298,7 +300,7 @@ pub extern "C" fn megzhoi_join(
     p: &mut usize,
     q: &mut usize,
 ) -> usize
-    ensures q_after { four result file.new p.new q.new ≡
+    ensures four_numbers { four result file.new p.new q.new ≡
         of_join (join_outcome period left.now right.now out.old).answer }
     ensures out_after { out.new ≡
         (join_outcome period left.now right.now out.old).out }

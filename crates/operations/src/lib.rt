@@ -4,6 +4,8 @@
 // measures what it is given, makes slices that have room for it, small ones where small ones do, and hands them to the
 // layers below. There is no heap, and no way to hand a function slices that are made elsewhere by a choice: so the
 // choice stands in each of them.
+#![tactic(auto)]
+
 ghost use Rattle.std.specs.Prelude.{◌≡◌, length};
 ghost use Rattle.clocks_read.specs.Reading.{read_outcome};
 ghost use Rattle.implementation_check.specs.Outcome.{implementation_outcome};

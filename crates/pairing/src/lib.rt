@@ -1,4 +1,6 @@
 // The channels of two texts, paired by name, and a move table by the other text's steps.
+#![tactic(auto)]
+
 ghost use Rattle.std.specs.Prelude.{◌≡◌, false, ◌+◌, ◌-◌, ◌*◌, ◌≤◌, ◌<◌, length, replicate};
 ghost use Rattle.reader_record.specs.Formed.{WellFormed};
 ghost use Rattle.bitmaps.specs.Bits.{tab_from, written};
@@ -12,7 +14,7 @@ use reader_record::{Channel, Name, Text};
 use refusals::Refusal;
 
 // Whether the channels are equal, or code 12 (SPECIFICATION 9.1).
-#[derive(Drop)]
+#[derive(Clone, Copy)]
 pub enum Matched {
     Equal,
     Unmatched(Refusal),
@@ -20,14 +22,14 @@ pub enum Matched {
 
 // `map` has the right's number of each step of the left: the tick is the tick, a channel the one of the same name, and 0
 // stands where there is none.
-#[derive(Drop)]
+#[derive(Clone, Copy)]
 pub struct Pairing {
     pub answer: Matched,
     pub map: [usize; STEP_LIMIT],
 }
 
 // The channels of a text: the first `count` of the list. What is compared are these alone, since a text is long.
-#[derive(Drop)]
+#[derive(Clone, Copy)]
 struct Channels {
     list: [Channel; CHANNEL_LIMIT],
     count: usize,

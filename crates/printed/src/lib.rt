@@ -1,6 +1,8 @@
 // What each program prints, made in a slice that it lends: the program itself only reads its files and writes the slice
 // out. Nothing is asked of the slice's length: what does not fit is left out, and the rest keeps its values. The second
 // promise of each function says what length is enough for all of it.
+#![tactic(auto)]
+
 ghost use Rattle.std.specs.Prelude.{◌≡◌, [], ◌∷◌, ◌≤◌, length};
 ghost use Rattle.limits.specs.Limits.{keep_limit};
 ghost use Rattle.clocks_read.specs.Reading.{read_outcome};
@@ -68,7 +70,7 @@ fn put_yes(left: &[u8], right: &[u8], out: &mut [u8]) -> usize
     ensures puts { Puts out.old 0
         (widest_line (widest_outcome program_tick left.now right.now
         (zeros keep_limit) (zeros counted_bytes)).answer) out.new result }
-    ensures counted_bytes_len_bound { length (widest_line (widest_outcome program_tick left.now right.now
+    ensures short { length (widest_line (widest_outcome program_tick left.now right.now
         (zeros keep_limit) (zeros counted_bytes)).answer) ≤ line_limit }
 {
     let mut keep = no_keep();
@@ -84,7 +86,7 @@ fn put_yes(left: &[u8], right: &[u8], out: &mut [u8]) -> usize
 fn put_no(left: &[u8], n: usize, run: &[u32], out: &mut [u8]) -> usize
     ensures puts { Puts out.old 0 (departure_lines left.now
         (read_outcome program_tick left.now).text.channels n run.now) out.new result }
-    ensures n_len_bound { length (line (ascii "NO") (n ∷ [])) ≤ line_limit }
+    ensures short { length (line (ascii "NO") (n ∷ [])) ≤ line_limit }
 {
     let reading = operations::read(PROGRAM_TICK, left);
     let t = reading.text;
@@ -95,9 +97,9 @@ fn put_no(left: &[u8], n: usize, run: &[u32], out: &mut [u8]) -> usize
 // Program megzhoi: NO and the steps of a shortest departure, YES and the number of the widest table's pairs, or the
 // refusal.
 pub fn megzhoi(left: &[u8], right: &[u8], out: &mut [u8]) -> usize
-    ensures fact { ◌≡◌ {A = Laid} (record { slice = out.new; count = result })
+    ensures prints { ◌≡◌ {A = Laid} (record { slice = out.new; count = result })
         (laid out.old (megzhoi_prints left.now right.now)) }
-    ensures right_len_bound { length (megzhoi_prints left.now right.now) ≤ megzhoi_limit }
+    ensures short { length (megzhoi_prints left.now right.now) ≤ megzhoi_limit }
 {
     let mut keep = no_keep();
     let mut back = no_entries();
@@ -125,10 +127,10 @@ pub fn megzhoi(left: &[u8], right: &[u8], out: &mut [u8]) -> usize
 
 // Program widest: the widest table as a file, or the refusal. The slice is lent on as the table.
 pub fn widest(left: &[u8], right: &[u8], out: &mut [u8]) -> usize
-    ensures fact { ◌≡◌ {A = Laid} (record { slice = out.new; count = result })
+    ensures prints { ◌≡◌ {A = Laid} (record { slice = out.new; count = result })
         (laid out.old
         (widest_prints (length out.old) left.now right.now)) }
-    ensures right_in_bounds { line_limit ≤ length out.old → length (widest_prints (length out.old)
+    ensures fits { line_limit ≤ length out.old → length (widest_prints (length out.old)
         left.now right.now) ≤ length out.old }
 {
     let mut keep = no_keep();
@@ -141,9 +143,9 @@ pub fn widest(left: &[u8], right: &[u8], out: &mut [u8]) -> usize
 
 // Program recheck: ACCEPTED and the number of pairs, or the refusal.
 pub fn recheck(left: &[u8], right: &[u8], table: &[u8], out: &mut [u8]) -> usize
-    ensures fact { ◌≡◌ {A = Laid} (record { slice = out.new; count = result })
+    ensures prints { ◌≡◌ {A = Laid} (record { slice = out.new; count = result })
         (laid out.old (recheck_prints left.now right.now table.now)) }
-    ensures table_len_bound { length (recheck_prints left.now right.now table.now)
+    ensures short { length (recheck_prints left.now right.now table.now)
         ≤ line_limit }
 {
     let mut keep = no_keep();
@@ -156,9 +158,9 @@ pub fn recheck(left: &[u8], right: &[u8], table: &[u8], out: &mut [u8]) -> usize
 
 // Program implementation: YES, or the refusal.
 pub fn implementation(left: &[u8], out: &mut [u8]) -> usize
-    ensures fact { ◌≡◌ {A = Laid} (record { slice = out.new; count = result })
+    ensures prints { ◌≡◌ {A = Laid} (record { slice = out.new; count = result })
         (laid out.old (implementation_prints left.now)) }
-    ensures left_len_bound { length (implementation_prints left.now) ≤ line_limit }
+    ensures short { length (implementation_prints left.now) ≤ line_limit }
 {
     let answer = operations::implementation(PROGRAM_TICK, left);
     match answer {

@@ -1,5 +1,7 @@
 // The lines that the programs print, made in a slice. Each function puts bytes at a place and returns the place behind
 // them; a byte for which the slice has no place is dropped, so no function asks for a length.
+#![tactic(auto)]
+
 ghost use Rattle.std.specs.Prelude.{◌≡◌, [], ◌∷◌, ◌++◌, ◌+◌, ◌-◌, ◌<◌, ◌≤◌, min, length, get_or};
 ghost use Rattle.reader_record.specs.Record.{no_channel};
 ghost use Rattle.pairing.specs.Channels.{spelling};
@@ -34,7 +36,7 @@ pub const LINE_LIMIT: usize = REFUSED_BYTES + REFUSED_NUMBERS * (MOST_DIGITS + 1
 // A space and a number.
 fn put_spaced(out: &mut [u8], at: usize, n: usize) -> usize
     ensures puts { Puts out.old at (space ++ decimal n) out.new result }
-    ensures n_len_bound { length (space ++ decimal n) ≤ most_digits + 1 }
+    ensures short { length (space ++ decimal n) ≤ most_digits + 1 }
 {
     let place = put_byte(out, at, SPACE);
     put_number(out, place, n)
@@ -43,7 +45,7 @@ fn put_spaced(out: &mut [u8], at: usize, n: usize) -> usize
 // A word and a number behind it.
 fn put_count(out: &mut [u8], at: usize, word: &[u8], n: usize) -> usize
     ensures puts { Puts out.old at (line word.now (n ∷ [])) out.new result }
-    ensures n_in_bounds { length (line word.now (n ∷ [])) ≤ length word.now + most_digits + 2 }
+    ensures short { length (line word.now (n ∷ [])) ≤ length word.now + most_digits + 2 }
 {
     let behind = put_bytes(out, at, word);
     let end = put_spaced(out, behind, n);
@@ -53,7 +55,7 @@ fn put_count(out: &mut [u8], at: usize, word: &[u8], n: usize) -> usize
 // REFUSED, the code, the file, p and q.
 pub fn put_refusal(out: &mut [u8], at: usize, f: Refusal) -> usize
     ensures puts { Puts out.old at (refusal_line f) out.new result }
-    ensures f_len_bound { length (refusal_line f) ≤ line_limit }
+    ensures short { length (refusal_line f) ≤ line_limit }
 {
     let word = put_bytes(out, at, b"REFUSED");
     let code = put_spaced(out, word, f.code);
@@ -66,7 +68,7 @@ pub fn put_refusal(out: &mut [u8], at: usize, f: Refusal) -> usize
 // YES and the number of the widest table's pairs.
 pub fn put_yes(out: &mut [u8], at: usize, count: usize) -> usize
     ensures puts { Puts out.old at (yes_line count) out.new result }
-    ensures count_len_bound { length (yes_line count) ≤ line_limit }
+    ensures short { length (yes_line count) ≤ line_limit }
 {
     put_count(out, at, b"YES", count)
 }
@@ -74,7 +76,7 @@ pub fn put_yes(out: &mut [u8], at: usize, count: usize) -> usize
 // YES alone, for a text that is an implementation.
 pub fn put_passed(out: &mut [u8], at: usize) -> usize
     ensures puts { Puts out.old at passed_line out.new result }
-    ensures passed_line_len_bound { length passed_line ≤ line_limit }
+    ensures short { length passed_line ≤ line_limit }
 {
     let end = put_bytes(out, at, b"YES");
     put_byte(out, end, LINE_END)
@@ -83,7 +85,7 @@ pub fn put_passed(out: &mut [u8], at: usize) -> usize
 // ACCEPTED and the number of the checked table's pairs.
 pub fn put_accepted(out: &mut [u8], at: usize, count: usize) -> usize
     ensures puts { Puts out.old at (accepted_line count) out.new result }
-    ensures count_len_bound { length (accepted_line count) ≤ line_limit }
+    ensures short { length (accepted_line count) ≤ line_limit }
 {
     put_count(out, at, b"ACCEPTED", count)
 }
@@ -193,7 +195,7 @@ pub fn put_departure(
 ) -> usize
     ensures puts { Puts out.old at (departure_lines text.now channels n run.now)
         out.new result }
-    ensures n_len_bound { length (line (ascii "NO") (n ∷ [])) ≤ line_limit }
+    ensures short { length (line (ascii "NO") (n ∷ [])) ≤ line_limit }
 {
     let head = put_count(out, at, b"NO", n);
     let end = least(n, run.len());

@@ -1,6 +1,8 @@
 // Calls of six operations, all but join, at a tick length, `period`, with long, exact and short slices, what the
 // enumerator says of each, and a tally of answers and differences: the answer counts, and every byte and entry that is
 // lent. Proved safe and ending, no more.
+#![tactic(auto)]
+
 ghost use Rattle.std.specs.Prelude.{◌≤◌};
 
 use enumerator::late::{has_late, has_overridden};
@@ -119,7 +121,7 @@ const LEAST_HEADER: usize = 7;
 
 // Two texts for an operation: a seed for lengths and contents, what is refused of them before 13, and what the enumerator
 // says of them.
-#[derive(Drop)]
+#[derive(Clone, Copy)]
 struct Case {
     seed: u32,
     refusal: Refusal,
@@ -127,7 +129,7 @@ struct Case {
 }
 
 // The lengths of the slices that are lent.
-#[derive(Drop)]
+#[derive(Clone, Copy)]
 struct Lengths {
     keep: usize,
     back: usize,

@@ -1,6 +1,8 @@
 // Calls of join at a tick length, `period`, with long, exact and short slices, and what the enumerator says of each
 // (SPECIFICATION 12.10, 18): the answer, every byte of the slice, the joined text byte for byte, and its meaning once
 // it is read again. Proved safe and ending, no more.
+#![tactic(auto)]
+
 use enumerator::moves::{ACCEPTED, accepted, same};
 use enumerator::pairs::{Two, right_step, two_of, two_refusal};
 use enumerator::parallel::joins_parallel;

@@ -3,6 +3,8 @@
 // brings is noted, so that the answer of reading is known without a reader. Bounds are chosen in ticks; what stands in the
 // text is a number of milliseconds that comes to them at the shape's tick length, found by adding up lengths: nothing is
 // divided by a tick length here, as reading does (SPECIFICATION 4.7). Proved safe and ending, no more.
+#![tactic(auto)]
+
 use limits::{
     CHANNEL_LIMIT, CLOCK_LIMIT, COMPARISON_LIMIT, EDGE_LIMIT, LARGEST_CONSTANT, LARGEST_NAME,
     LOCATION_LIMIT, LONGEST_TICK,
@@ -13,7 +15,7 @@ use limits::{
 // at which location and channel the change is; `period` is the tick length at which it is written, in range;
 // `is_made_like` says that its channels are named like the names that joining makes. Small structs keep the proofs
 // short.
-#[derive(Drop)]
+#[derive(Clone, Copy)]
 pub struct Shape {
     pub period: usize,
     pub size: u32,
@@ -26,7 +28,7 @@ pub struct Shape {
 
 // How far a text is written, how many edges it has, and the first refusal that is known of it: its code, 0 for none, and
 // its place.
-#[derive(Drop)]
+#[derive(Clone, Copy)]
 pub struct Pen {
     pub at: usize,
     pub edges: usize,

@@ -1,5 +1,7 @@
 // Reads a contract text into its record (SPECIFICATION 5.1) at a tick length, `period`, or refuses it with code 24
 // (SPECIFICATION 4.7) or one of the codes 1 to 8 (SPECIFICATION 4.5).
+#![tactic(auto)]
+
 ghost use Rattle.std.specs.Prelude.{◌≡◌, false, ◌≤◌, ◌<◌, length};
 ghost use Rattle.reader_lists.specs.Turns.{item, state_of};
 ghost use Rattle.reader_lists.specs.Heads.{no_edges, before_edges, with_rest, ReadsHead, ReadsEdges};
@@ -18,7 +20,7 @@ use reader_record::{Channel, Name, Text};
 use refusals::{Refusal, Verdict};
 
 // The answer, and the record of the text where it is accepted.
-#[derive(Drop)]
+#[derive(Clone, Copy)]
 pub struct Parsed {
     pub answer: Verdict,
     pub text: Text,

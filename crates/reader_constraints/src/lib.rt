@@ -1,5 +1,7 @@
 // Reads a guard or an invariant of a contract text (SPECIFICATION 3.1, 3.2) at a tick length, `period` (SPECIFICATION
 // 4.7).
+#![tactic(auto)]
+
 ghost use Rattle.std.specs.Prelude.{◌≡◌, true, false, ◌+◌, ◌≤◌, ◌<◌, length};
 ghost use Rattle.reader_constraints.specs.Constraints.{in_ticks, no_amount, constant_of, constant, least_after, least_constant};
 ghost use Rattle.reader_constraints.specs.Constraints.{no_sign, read_sign, sign_of, sign_next, comparison_next};
@@ -13,7 +15,7 @@ use reader_parts::{FIRST_CLOCK, Fault, NAME_SLOTS, Status};
 use reader_record::{Comparison, Constraint, Name, Sign};
 use reader_tokens::Token;
 
-#[derive(Drop)]
+#[derive(Clone, Copy)]
 pub struct Amount {
     pub status: Status,
     pub value: usize,
@@ -77,7 +79,7 @@ pub fn constant(period: usize, s: &[u8], st: Status, least: usize) -> Amount
     }
 }
 
-#[derive(Drop)]
+#[derive(Clone, Copy)]
 pub struct SignRead {
     pub status: Status,
     pub sign: Sign,
@@ -167,7 +169,7 @@ fn least_constant(invariant: bool, sign: Sign) -> usize
     0
 }
 
-#[derive(Drop)]
+#[derive(Clone, Copy)]
 pub struct ComparisonRead {
     pub status: Status,
     pub comparison: Comparison,
@@ -233,7 +235,7 @@ fn with_comparison(c: Constraint, x: Comparison) -> Constraint
     d
 }
 
-#[derive(Drop)]
+#[derive(Clone, Copy)]
 pub struct ConstraintRead {
     pub status: Status,
     pub constraint: Constraint,

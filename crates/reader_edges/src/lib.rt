@@ -1,4 +1,6 @@
 // Reads an edge of a contract text: its locations, guard, label and assignments (SPECIFICATION 3.1).
+#![tactic(auto)]
+
 ghost use Rattle.std.specs.Prelude.{◌≡◌, true, false, ◌+◌, ◌≤◌, ◌<◌, length, get_or};
 ghost use Rattle.reader_record.specs.Record.{no_channel};
 ghost use Rattle.reader_edges.specs.Labels.{no_mark, mark_next, fits, mark_judged, label_of, label_next};
@@ -14,7 +16,7 @@ use reader_record::{Assignment, Channel, Direction, Edge, Label, Name};
 // The least constant that may be assigned: any may.
 const LEAST_ASSIGNED: usize = 0;
 
-#[derive(Drop)]
+#[derive(Clone, Copy)]
 pub struct MarkRead {
     pub status: Status,
     pub input: bool,
@@ -102,7 +104,7 @@ fn label_of(input: bool, channel: usize) -> Label
     Label::Output((channel + 1) as u8)
 }
 
-#[derive(Drop)]
+#[derive(Clone, Copy)]
 pub struct LabelRead {
     pub status: Status,
     pub channel: usize,
@@ -140,7 +142,7 @@ fn label_next(
     }
 }
 
-#[derive(Drop)]
+#[derive(Clone, Copy)]
 pub struct AssignRead {
     pub status: Status,
     pub clock: usize,
@@ -185,7 +187,7 @@ fn then_assigned(a: Assignment, v: u16) -> Assignment
     }
 }
 
-#[derive(Drop)]
+#[derive(Clone, Copy)]
 pub struct AssignsRead {
     pub status: Status,
     pub assignments: [Assignment; CLOCK_LIMIT],
@@ -232,7 +234,7 @@ fn assigns(period: usize, s: &[u8], st: Status, names: [Name; NAME_SLOTS]) -> As
     }
 }
 
-#[derive(Drop)]
+#[derive(Clone, Copy)]
 pub struct EdgeRead {
     pub status: Status,
     pub channel: usize,

@@ -1,1 +1,2 @@
 // Theorems only: the eight posts (SPECIFICATION 16.1), and refusals, read by the definition.
+#![tactic(auto)]

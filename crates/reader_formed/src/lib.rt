@@ -1,1 +1,2 @@
 // Theorems only: what reading promises of an accepted text.
+#![tactic(auto)]

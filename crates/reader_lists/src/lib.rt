@@ -1,4 +1,6 @@
 // Reads the lists of a contract text: channels, clocks, locations and edges (SPECIFICATION 3.1).
+#![tactic(auto)]
+
 ghost use Rattle.std.specs.Prelude.{◌≡◌, true, false, ◌+◌, ◌≤◌, ◌<◌, length};
 ghost use Rattle.reader_lists.specs.State.{blank_edge, no_text, direction_by, marked};
 ghost use Rattle.reader_lists.specs.Lists.{Item, limit, items};
@@ -11,7 +13,7 @@ use reader_parts::{FIRST_CHANNEL, FIRST_CLOCK, FIRST_LOCATION, NAME_SLOTS, Statu
 use reader_record::{Channel, Constraint, Direction, Edge, Label, Location, Name, Text};
 
 // The kinds of item that declare a name.
-#[derive(Drop)]
+#[derive(Clone, Copy)]
 pub enum Named {
     Channel,
     Clock,
@@ -19,7 +21,7 @@ pub enum Named {
 }
 
 // How far the reader has come past an item and what stands after it, and whether another item comes.
-#[derive(Drop)]
+#[derive(Clone, Copy)]
 struct Turn {
     status: Status,
     more: bool,
@@ -27,7 +29,7 @@ struct Turn {
 
 // The record's head: what stands before its starting location and its edges. The head and the edges are read apart, so
 // that no call copies both.
-#[derive(Drop)]
+#[derive(Clone, Copy)]
 pub struct Head {
     pub channels: [Channel; CHANNEL_LIMIT],
     pub channel_count: usize,
@@ -38,7 +40,7 @@ pub struct Head {
 }
 
 // How far the reader has come in the head, the declared names by their slots, and the head so far.
-#[derive(Drop)]
+#[derive(Clone, Copy)]
 pub struct HeadRead {
     pub status: Status,
     pub names: [Name; NAME_SLOTS],
@@ -46,7 +48,7 @@ pub struct HeadRead {
 }
 
 // How far the reader has come in the edges, the channels with the directions that the edges say, and the edges so far.
-#[derive(Drop)]
+#[derive(Clone, Copy)]
 pub struct EdgesRead {
     pub status: Status,
     pub channels: [Channel; CHANNEL_LIMIT],

@@ -1,4 +1,6 @@
 // The record of a text as numbers in a slice, for callers that have no Rattle types (SPECIFICATION 15.2).
+#![tactic(auto)]
+
 ghost use Rattle.std.specs.Prelude.{◌≡◌, cond, [], ◌∷◌, ◌+◌, ◌≤◌};
 ghost use Rattle.limits.specs.Limits.{channel_limit, clock_limit, location_limit, edge_limit};
 ghost use Rattle.reader_numbers.specs.Layout.{label_size, comparison_size, constraint_size, channel_size};

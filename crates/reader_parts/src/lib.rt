@@ -1,4 +1,6 @@
 // What each part of a contract text is read with: how far the reader has come, single tokens, names and their table.
+#![tactic(auto)]
+
 ghost use Rattle.std.specs.Prelude.{◌≡◌, false, ◌+◌, ◌-◌, ◌≤◌, ◌<◌, length};
 ghost use Rattle.reader_parts.specs.Slots.{name_slots};
 ghost use Rattle.reader_parts.specs.Status.{take, ahead, name_next, no_name_read};
@@ -22,7 +24,7 @@ pub const FIRST_LOCATION: usize = FIRST_CLOCK + CLOCK_LIMIT;
 pub const NAME_SLOTS: usize = FIRST_LOCATION + LOCATION_LIMIT;
 
 // Why a text is refused, with the byte place (SPECIFICATION 4.5). The crate `reader` gives the code of each.
-#[derive(Drop)]
+#[derive(Clone, Copy)]
 pub enum Fault {
     TooLong,
     Misfit(usize),
@@ -35,7 +37,7 @@ pub enum Fault {
 }
 
 // How far the reader has come. A reader that refuses stays where it is (SPECIFICATION 4.6).
-#[derive(Drop)]
+#[derive(Clone, Copy)]
 pub enum Status {
     At(usize),
     Refused(Fault),
@@ -72,7 +74,7 @@ pub fn ahead(s: &[u8], st: Status, k: usize) -> bool
 }
 
 // A name that is read, and how far the reader has come.
-#[derive(Drop)]
+#[derive(Clone, Copy)]
 pub struct NameRead {
     pub status: Status,
     pub name: Name,
@@ -150,7 +152,7 @@ pub fn find(s: &[u8], names: [Name; NAME_SLOTS], name: Name) -> usize
 }
 
 // A declared name, and the table with it.
-#[derive(Drop)]
+#[derive(Clone, Copy)]
 pub struct Declaration {
     pub status: Status,
     pub names: [Name; NAME_SLOTS],
@@ -207,7 +209,7 @@ pub fn declare(
 }
 
 // A used name: its number among its kind, and its byte place.
-#[derive(Drop)]
+#[derive(Clone, Copy)]
 pub struct Use {
     pub status: Status,
     pub number: usize,

@@ -1,13 +1,15 @@
 // A text and the place that the reader has come to in it, for tokens in their order (SPECIFICATION 4.6). The borrow
 // checker covers no function over a struct that holds a slice, so each is thin and proved by hand; the work is
 // `reader_tokens::token_at`, and callers use `scan`.
+#![tactic(auto)]
+
 ghost use Rattle.std.specs.Prelude.{◌≡◌};
 ghost use Rattle.reader_tokens.specs.Tokens.{token_at};
 
 use reader_tokens::Token;
 
 // The text, and the byte place come to.
-#[derive(Drop)]
+#[derive(Clone, Copy)]
 pub struct Scanner<'a> {
     pub text: &'a [u8],
     pub place: usize,

@@ -1,4 +1,6 @@
 // Finds the token at or after a byte place of a contract text (SPECIFICATION 2.4), and what a numeral comes to.
+#![tactic(auto)]
+
 ghost use Rattle.std.specs.Prelude.{◌≡◌, true, ◌+◌, ◌-◌, ◌*◌, ◌≤◌, ◌<◌, length, get_or, drop};
 ghost use mathlib.Core.List.{map, flatten};
 ghost use Rattle.reader_tokens.specs.Scan.{member, is_space, is_letter, is_digit, is_part, past, with_digit};
@@ -83,7 +85,7 @@ const DIGIT_ZERO: usize = b'0' as usize;
 pub const OVER_NUMERAL: usize = LARGEST_NUMERAL + 1;
 
 // A token: its kind, the place of its first byte and the place after its last.
-#[derive(Drop)]
+#[derive(Clone, Copy)]
 pub struct Token {
     pub kind: usize,
     pub place: usize,
@@ -91,7 +93,7 @@ pub struct Token {
 }
 
 // The classes of bytes that a run is made of: white space, what a name goes on with, digits.
-#[derive(Drop)]
+#[derive(Clone, Copy)]
 enum Class {
     Space,
     Part,

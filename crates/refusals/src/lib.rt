@@ -1,4 +1,6 @@
 // A refusal: code, file mark, p and q (SPECIFICATION 13.1, 13.2). Each is made by a function of its own.
+#![tactic(auto)]
+
 ghost use Rattle.std.specs.Prelude.{◌≡◌, ◌≤◌, ◌<◌};
 ghost use Rattle.limits.specs.Limits.{state_limit};
 ghost use Rattle.refusals.specs.Refusals.{in_file, text_too_long, misfit, name_too_long, declared_before, unknown_name, constant_too_large, too_many_items, other_mark, too_many_states, input_without_move, two_edges, unmatched_channel, keep_too_short, table_too_short, queue_too_short, other_table, start_not_safe, start_pair_not_set, pair_not_allowed, rule_broken, run_too_short, output_beside_tick, neither_possible, tick_out_of_range, limit_exceeded, out_too_short};
@@ -13,7 +15,7 @@ pub const RIGHT_FILE: usize = 2;
 pub const NO_FILE: usize = 0;
 
 // `code` is 1 to 26; `file` is one of the marks above.
-#[derive(Drop)]
+#[derive(Clone, Copy)]
 pub struct Refusal {
     pub code: usize,
     pub file: usize,
@@ -22,7 +24,7 @@ pub struct Refusal {
 }
 
 // Whether something is accepted, or how it is refused.
-#[derive(Drop)]
+#[derive(Clone, Copy)]
 pub enum Verdict {
     Accepted,
     Refused(Refusal),

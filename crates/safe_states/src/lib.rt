@@ -1,4 +1,6 @@
 // The operation that finds the safe states of a text (SPECIFICATION 12.2).
+#![tactic(auto)]
+
 ghost use Rattle.std.specs.Prelude.{◌≡◌, length};
 ghost use Rattle.clocks_table.specs.Room.{Room};
 ghost use Rattle.clocks_read.specs.Measured.{Measures};
@@ -11,7 +13,7 @@ use reader_record::Text;
 use refusals::{Refusal, Verdict};
 
 // The count of the safe states and whether the start is one, or what is refused (SPECIFICATION 12.2).
-#[derive(Drop)]
+#[derive(Clone, Copy)]
 pub enum SafeAnswer {
     Found(usize, bool),
     Refused(Refusal),

@@ -1,10 +1,12 @@
 // A step: the tick, or a channel, as one number (SPECIFICATION 6.8). Where a step is written, in a run, in code 20 or
 // by a program, it goes through this type.
+#![tactic(auto)]
+
 ghost use Rattle.std.specs.Prelude.{◌≡◌, ◌<◌, eqb};
 ghost use Rattle.limits.specs.Limits.{step_limit};
 ghost use Rattle.systems.specs.Definitions.{tick};
 
-#[derive(Drop)]
+#[derive(Clone, Copy)]
 pub struct Step {
     pub number: usize,
 }

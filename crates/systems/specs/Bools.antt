@@ -7,15 +7,19 @@ use Rattle.systems.specs.Tests.{all, any, least, ◌⇒◌, stays, lands}
 -- the parts of a test
 pub and_T : (a b : Bool) → T a → T b → T (a && b)
 and_T true b p q = q
+and_T false b p q = elim p [ ]
 
 pub and_left : (a b : Bool) → T (a && b) → T a
 and_left true b p = tt
+and_left false b p = elim p [ ]
 
 pub and_right : (a b : Bool) → T (a && b) → T b
 and_right true b p = p
+and_right false b p = elim p [ ]
 
 pub and_both : (a b : Bool) → T (a && b) → T a × T b
 and_both true b p = (tt, p)
+and_both false b p = elim p [ ]
 
 pub or_cases : (a b : Bool) → T (a || b) → T a ⊎ T b
 or_cases true b t = inl tt
@@ -23,6 +27,7 @@ or_cases false b t = inr t
 
 pub or_left : (a b : Bool) → T a → T (a || b)
 or_left true b t = tt
+or_left false b t = elim t [ ]
 
 pub or_right : (a b : Bool) → T b → T (a || b)
 or_right true b t = tt
@@ -41,9 +46,11 @@ T_dec false = inr tt
 
 pub T_true : (b : Bool) → T b → b ≡ true
 T_true true t = refl
+T_true false t = elim t [ ]
 
 pub T_false : (b : Bool) → T (not b) → b ≡ false
 T_false false t = refl
+T_false true t = elim t [ ]
 
 -- tests that pass alike are the same
 pub T_same : (a b : Bool) → (T a → T b) → (T b → T a) → a ≡ b
@@ -71,6 +78,7 @@ pub any_elim : (n : ℕ) (p : ℕ → Bool) → T (any n p) → (i : ℕ) × (i 
 unfolding any
 any_elim (suc n) p t = ⊎_elim {C = (i : ℕ) × (i < suc n) × T (p i)} (λ h. (n, omega arith, h))
     (λ h. let r = any_elim n p h in (r.0, omega arith, r.2)) (or_cases (p n) (any n p) t)
+any_elim zero p t = elim t [ ]
 
 pub any_intro : (n : ℕ) (p : ℕ → Bool) (i : ℕ) → i < n → T (p i) → T (any n p)
 unfolding any
@@ -93,6 +101,7 @@ least_passes p i (suc n) j h l t = go (p i) refl (λ r. least_passes p (suc i) n
 pub imp_elim : (a b : Bool) → T (a ⇒ b) → T a → T b
 unfolding ◌⇒◌
 imp_elim true b h t = h
+imp_elim false b h t = elim t [ ]
 
 pub imp_intro : (a b : Bool) → (T a → T b) → T (a ⇒ b)
 unfolding ◌⇒◌
@@ -111,6 +120,7 @@ stays_intro X (some t) f = f t refl
 pub lands_elim : (X : ℕ → Bool) (o : Option ℕ) → T (lands X o) → (t : ℕ) × (o ≡ some t) × T (X t)
 unfolding lands
 lands_elim X (some t) h = (t, refl, h)
+lands_elim X none h = elim h [ ]
 
 pub lands_intro : (X : ℕ → Bool) (o : Option ℕ) (t : ℕ) → o ≡ some t → T (X t) → T (lands X o)
 unfolding lands

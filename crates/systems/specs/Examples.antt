@@ -90,6 +90,7 @@ press_moves d r x c h i = let e : c ≡ 1 = eqb→eq c 1 i in rw e (T_cond (hold
   where
     T_cond : (b : Bool) → T b → ◌≡◌ {A = Option ℕ} (cond b (some x) none) (some x)
     T_cond true t = refl
+    T_cond false t = elim t [ ]
 
 -- the same with the clock capped
 cap_holds : (d : Bool) (x : ℕ) → holds d (cap x) ≡ holds d x

@@ -230,6 +230,7 @@ module _ (R : Rule) (X Y : List Bool) where
 replicate_in : (n i : ℕ) → T (at (replicate n true) i) → i < n
 replicate_in (suc n) zero t = omega arith
 replicate_in (suc n) (suc i) t = let h = replicate_in n i t in omega arith
+replicate_in zero i t = elim t [ ]
 
 pub at_table : (n : ℕ) (p : ℕ → Bool) (i : ℕ) → T (at (table n p) i) ↔ ((i < n) × T (p i))
 unfolding table
@@ -266,6 +267,7 @@ ones_room [] i l t = absurd (omega arith)
 ones_room (false ∷ X) zero l t = omega (arith, ones_le X)
 ones_room (true ∷ X) (suc i) l t = let h = ones_room X i (omega arith) t in omega arith
 ones_room (false ∷ X) (suc i) l t = let h = ones_room X i (omega arith) t in omega arith
+ones_room (true ∷ X) zero l t = elim t [ ]
 
 pub ones_set : (X : List Bool) (i : ℕ) → i < length X → T (not (at X i)) → ones (set X i true) ≡ suc (ones X)
 unfolding ones
@@ -273,6 +275,7 @@ ones_set [] i l t = absurd (omega arith)
 ones_set (false ∷ X) zero l t = refl
 ones_set (true ∷ X) (suc i) l t = ap suc (ones_set X i (omega arith) t)
 ones_set (false ∷ X) (suc i) l t = ones_set X i (omega arith) t
+ones_set (true ∷ X) zero l t = elim t [ ]
 
 -- lengths of tables
 length_sieve : (p : ℕ → Bool) (i : ℕ) (X : List Bool) → length (sieve p i X) ≡ length X

@@ -4,7 +4,7 @@ use mathlib.Core.Bool.{Bool, true, false, not, cond}
 use mathlib.Core.List.{List, ◌++◌}
 use Prim.Native.Nat.{ℕ, ◌-◌, ◌*◌, ◌≤◌, ◌<◌}
 use native.Mathlib.Omega.{arith}
-use borrow.Author.Tests.{not-true, not-false, lt-ltb, le-ltb}
+use borrow.Author.Tests.{lt-ltb, le-ltb}
 use lib.Dec.{ltb}
 use lib.ListN.{length, take, drop}
 use Rattle.refusals.specs.declared.Refusal.{Refusal}
@@ -113,13 +113,13 @@ module _ (w n a : ℕ) (table : List ℕ) (e : a ≡ header_bytes w n) where
   pub raster_rest : take (length table - a) (drop a table) ≡ drop (header_bytes w n) table
   raster_rest = rest_of a table ∙ ap (λ (x : ℕ). drop x table) e
 
-  module _ (b : Bool) (f : b ≡ fits w n table) (h : not b ≡ false) where
+  module _ (b : Bool) (f : b ≡ fits w n table) (h : b ≡ true) where
     pub header_in : a ≤ length table
     unfolding table_bytes
-    header_in = omega (arith, e, fits_length w n table (sym f ∙ not-false b h))
+    header_in = omega (arith, e, fits_length w n table (sym f ∙ h))
 
     pub raster_long : n * bytes_for w ≤ length (take (length table - a) (drop a table))
-    raster_long = raster_room w n a table e (omega (arith, fits_length w n table (sym f ∙ not-false b h)))
+    raster_long = raster_room w n a table e (omega (arith, fits_length w n table (sym f ∙ h)))
 
 -- the paths of the check
 module _ (sides : Sides) (inputs : List Bool) (lm rm lh rh keep table : List ℕ) (needed : ℕ)
@@ -137,26 +137,26 @@ module _ (sides : Sides) (inputs : List Bool) (lm rm lh rh keep table : List ℕ
     check_long = le-ltb (length keep) (bytes_for sides.left_states) (rw z at long)
 
     pub check_other : (f : Refusal) (b : Bool) → f ≡ other_table
-        → b ≡ fits sides.right_states sides.left_states table → not b ≡ true
+        → b ≡ fits sides.right_states sides.left_states table → b ≡ false
         → Checks sides inputs lm rm lh rh keep table (checked (check.Refused f) keep)
     unfolding check_by
     check_other f b e g n A L R D =
-        let k : fits sides.right_states sides.left_states table ≡ false = sym g ∙ not-true b n in
+        let k : fits sides.right_states sides.left_states table ≡ false = sym g ∙ n in
         rw e (rw (check_long, k) refl ∙ sym (check_is D keep table))
 
-    module _ (b : Bool) (g : b ≡ fits sides.right_states sides.left_states table) (n : not b ≡ false)
+    module _ (b : Bool) (g : b ≡ fits sides.right_states sides.left_states table) (n : b ≡ true)
         (lm' keep' : List ℕ) (start : Bool) (P : Prepared sides inputs lh lm lm' keep keep' start) where
       fitting : fits sides.right_states sides.left_states table ≡ true
-      fitting = sym g ∙ not-false b n
+      fitting = sym g ∙ n
 
-      pub check_not_safe : (f : Refusal) → f ≡ start_not_safe sides.left_start → not start ≡ true
+      pub check_not_safe : (f : Refusal) → f ≡ start_not_safe sides.left_start → start ≡ false
           → Checks sides inputs lm rm lh rh keep table (checked (check.Refused f) keep')
       unfolding check_by
       check_not_safe f e s A L R D =
-          rw (e, is_kept D P) (rw (check_long, fitting, is_safe D P false (not-true start s)) refl ∙ sym
+          rw (e, is_kept D P) (rw (check_long, fitting, is_safe D P false s) refl ∙ sym
           (check_is D keep table))
 
-      pub check_scanned : (a : CheckAnswer) (r : TableAnswer) (k : List ℕ) → not start ≡ false
+      pub check_scanned : (a : CheckAnswer) (r : TableAnswer) (k : List ℕ) → start ≡ true
           → k ≡ drop (header_bytes sides.right_states sides.left_states) table
           → r ≡ raster_answer keep' rh lm' rm sides k
           → a ≡ check_of sides.right_states sides.left_start sides.right_start r
@@ -180,7 +180,7 @@ module _ (sides : Sides) (inputs : List Bool) (lm rm lh rh keep table : List ℕ
           rw (answered, is_kept D P)
           (cond_record (not (set_at w raster ls rs)) (check.Refused (start_pair_not_set ls rs))
           (scanned w count found) (packed sides.left_states (safe_states L) keep)
-          ∙ rw (check_long, fitting, is_safe D P true (not-false start s)) refl ∙ sym (check_is D keep table))
+          ∙ rw (check_long, fitting, is_safe D P true s) refl ∙ sym (check_is D keep table))
 
 -- the paths of the widest table
 module _ (sides : Sides) (inputs : List Bool) (lm rm lh rh keep table : List ℕ) (needed : ℕ)
@@ -211,18 +211,18 @@ module _ (sides : Sides) (inputs : List Bool) (lm rm lh rh keep table : List ℕ
       table_long : ltb (length table) (table_bytes sides.right_states sides.left_states) ≡ false
       table_long = le-ltb (length table) _ (rw z at room)
 
-      pub widest_not_safe : (f : Refusal) → f ≡ start_not_safe sides.left_start → not start ≡ true
+      pub widest_not_safe : (f : Refusal) → f ≡ start_not_safe sides.left_start → start ≡ false
           → Widens sides inputs lm rm lh rh keep table (widened (made.Refused f) keep' table)
       unfolding widest_by
       widest_not_safe f e s A L R D =
-          rw (e, is_kept D P) (rw (widest_long, table_long, is_safe D P false (not-true start s)) refl ∙ sym
+          rw (e, is_kept D P) (rw (widest_long, table_long, is_safe D P false s) refl ∙ sym
           (widest_is D keep table))
 
-      pub widest_made : (table' : List ℕ) (count : ℕ) (b : Bool) → not start ≡ false
+      pub widest_made : (table' : List ℕ) (count : ℕ) (b : Bool) → start ≡ true
           → Makes keep' rh lm' rm sides table table' count b
           → Widens sides inputs lm rm lh rh keep table (widened (made.Made count b) keep' table')
       unfolding widest_by
       widest_made table' count b s M A L R D =
           let m = M A L R (prepared_systems D lm' keep keep' start P (rw y at long)) in
           rw (m.table_is, m.count_is, m.start_is, is_kept D P)
-          (rw (widest_long, table_long, is_safe D P true (not-false start s)) refl ∙ sym (widest_is D keep table))
+          (rw (widest_long, table_long, is_safe D P true s) refl ∙ sym (widest_is D keep table))

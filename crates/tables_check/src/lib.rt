@@ -1,5 +1,7 @@
 // The check of a raster: the lowest pair, by row and then column, that has a state which may not be there or breaks a
 // rule, with the least step at which it does.
+#![tactic(auto)]
+
 ghost use Rattle.std.specs.Prelude.{◌≡◌, true, false, ℕ, ◌+◌, ◌*◌, ◌/◌, ◌≤◌, ◌<◌, length, set};
 ghost use Rattle.move_tables.specs.Moves.{Bounded, no_move};
 ghost use Rattle.bitmaps.specs.Packed.{bytes_for};
@@ -18,7 +20,7 @@ use steps::Step;
 use tables_cut::Span;
 
 // A pair that is set: fine, or with a state that may not be there, or breaking a rule at a step.
-#[derive(Drop)]
+#[derive(Clone, Copy)]
 pub enum Fault {
     Fine,
     NotAllowed,
@@ -27,7 +29,7 @@ pub enum Fault {
 
 // What is found in a raster: no pair that fails, or the lowest one, with the step where it breaks a rule
 // (SPECIFICATION 11.5).
-#[derive(Drop)]
+#[derive(Clone, Copy)]
 pub enum Found {
     Passed,
     NotAllowedAt(usize, usize),

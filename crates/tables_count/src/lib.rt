@@ -1,4 +1,6 @@
 // Counts the pairs set in a raster: the ones byte by byte, after the padding of each row is taken off.
+#![tactic(auto)]
+
 ghost use Rattle.std.specs.Prelude.{◌≡◌, suc, ◌+◌, ◌-◌, ◌*◌, ◌/◌, ◌%◌, ◌≤◌, ◌<◌, length};
 ghost use Rattle.bitmaps.specs.Bits.{bit_at};
 ghost use Rattle.bitmaps.specs.Packed.{bytes_for};

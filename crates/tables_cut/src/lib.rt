@@ -1,4 +1,6 @@
 // A row of a raster, copied and cut: each of its pairs is kept only if a step breaks no rule there.
+#![tactic(auto)]
+
 ghost use Rattle.std.specs.Prelude.{◌+◌, ◌*◌, ◌≤◌, ◌<◌, length};
 ghost use Rattle.limits.specs.Limits.{state_limit};
 ghost use Rattle.bitmaps.specs.Packed.{bytes_for};
@@ -11,7 +13,7 @@ ghost use Rattle.tables_cut.specs.Rule.{fine, Shape, Tables, Loaded};
 use move_tables::Sides;
 
 // The bits of a row from `from` on and before `to`.
-#[derive(Drop)]
+#[derive(Clone, Copy)]
 pub struct Span {
     pub from: usize,
     pub to: usize,

@@ -1,5 +1,7 @@
 // The first cut of a table: each row is that of all allowed pairs, cut at once by the masks of the left state's steps; for
 // as long as no pair is gone, a step is matched wherever it leads the right to a state whose invariant is true.
+#![tactic(auto)]
+
 ghost use Rattle.std.specs.Prelude.{◌≡◌, ◌*◌, ◌≤◌, ◌<◌, length};
 ghost use Rattle.limits.specs.Limits.{state_limit};
 ghost use Rattle.bitmaps.specs.Bits.{bit_at};

@@ -1,5 +1,7 @@
 // The header of a table file, a Netpbm raw PBM, and the length of the file; w is the number of right states, h that of
 // left states.
+#![tactic(auto)]
+
 ghost use Rattle.std.specs.Prelude.{◌≡◌, ◌+◌, ◌≤◌, ◌<◌, ◌++◌, length, get_or, drop};
 ghost use Rattle.byte_slices.specs.Decimal.{decimal};
 ghost use Rattle.tables_header.specs.Header.{magic_line, magic_bytes, header, header_bytes, table_bytes, begins, fits};

@@ -1,5 +1,7 @@
 // What the operations on two systems do alike once their slices are judged: the left's safe states, and the left's moves
 // without those that leave them.
+#![tactic(auto)]
+
 ghost use Rattle.std.specs.Prelude.{◌≤◌, length};
 ghost use Rattle.bitmaps.specs.Packed.{bytes_for};
 ghost use Rattle.tables_prepare.specs.Prepared.{Ready, Prepared};

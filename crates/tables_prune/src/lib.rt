@@ -1,4 +1,6 @@
 // Pruning: a system's move table without the moves that leave its safe states, and so are taken by no implementation.
+#![tactic(auto)]
+
 ghost use Rattle.std.specs.Prelude.{◌≡◌, ◌/◌, ◌≤◌, ◌<◌, length};
 ghost use Rattle.bitmaps.specs.Bits.{bit_at};
 ghost use Rattle.move_tables.specs.Moves.{Bounded, no_move};

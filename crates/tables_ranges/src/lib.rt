@@ -1,5 +1,7 @@
 // Rows of bits in bytes, the high bit first: the bits of a range are taken away, all of them or those that are not set
 // in a range of another row, eight at a time.
+#![tactic(auto)]
+
 ghost use Rattle.std.specs.Prelude.{◌≡◌, false, [], ◌∷◌, ℕ, ◌+◌, ◌-◌, ◌*◌, ◌/◌, ◌%◌, ◌≤◌, ◌<◌, length, get_or};
 ghost use Rattle.limits.specs.Limits.{state_limit, keep_limit};
 ghost use Rattle.tables_ranges.specs.Cut.{Cut, from_bit, bit_in, Eight, FullFrom};

@@ -1,5 +1,7 @@
 // A raster: the pairs of a left state (its row) and a right state (its bit in the row), each row in whole bytes. One
 // pair of it is read and taken out.
+#![tactic(auto)]
+
 ghost use Rattle.std.specs.Prelude.{◌≡◌, true, ◌+◌, ◌*◌, ◌/◌, ◌≤◌, ◌<◌, length, set};
 ghost use Rattle.bitmaps.specs.Packed.{bytes_for};
 ghost use Rattle.tables_rows.specs.Raster.{set_at, without};

@@ -1,4 +1,6 @@
 // Runs of a step: right states in a row that all go to one state, or to states in a row, or have no move.
+#![tactic(auto)]
+
 ghost use Rattle.std.specs.Prelude.{◌≡◌, ℕ, ◌+◌, ◌-◌, ◌*◌, ◌/◌, ◌%◌, ◌≤◌, ◌<◌, length, get_or};
 ghost use Rattle.limits.specs.Limits.{move_limit, few_moves};
 ghost use Rattle.move_tables.specs.Moves.{Bounded};

@@ -1,4 +1,6 @@
 // The removal by rows: rows are looked at until none has a pair that breaks a rule.
+#![tactic(auto)]
+
 ghost use Rattle.std.specs.Prelude.{◌≡◌, false, ◌+◌, ◌-◌, ◌*◌, ◌≤◌, ◌<◌, length, set};
 ghost use Rattle.limits.specs.Limits.{state_limit};
 ghost use Rattle.move_tables.specs.Moves.{Bounded};
@@ -7,7 +9,7 @@ ghost use Rattle.tables_settle.specs.State.{Ready, Quiet, Turned, Swept, Moved, 
 use move_tables::Sides;
 
 // How far the removal is: the time, which rises by one whenever a row changes, and the number of pairs that are set.
-#[derive(Drop)]
+#[derive(Clone, Copy)]
 pub struct Progress {
     pub time: u32,
     pub count: usize,

@@ -1,5 +1,7 @@
 // Classes of a step: the right states that it shifts alike. A step whose moves are hundreds of short runs often has few
 // shifts; then a row is cut by one range for each class, under the mask of the class, and not by one for each run.
+#![tactic(auto)]
+
 ghost use Rattle.std.specs.Prelude.{◌≡◌, true, ◌&&◌, ◌||◌, ℕ, ◌+◌, ◌-◌, ◌*◌, ◌/◌, ◌%◌, ◌≤◌, ◌<◌, length, get_or};
 ghost use Rattle.std.specs.Int.Bits.{bit_or};
 ghost use Rattle.limits.specs.Limits.{state_limit, step_limit, keep_limit, few_states};
@@ -41,7 +43,7 @@ const MANY_RUNS: usize = 16;
 const RUNS_WORTH: usize = 8;
 
 // How many classes there are so far, one more than CLASS_LIMIT if they are too many, and the class of the last state.
-#[derive(Drop)]
+#[derive(Clone, Copy)]
 struct Placed {
     count: usize,
     last: usize,

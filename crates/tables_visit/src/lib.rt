@@ -1,4 +1,6 @@
 // One row of the table of pairs, cut by the rows that its moves lead to.
+#![tactic(auto)]
+
 ghost use Rattle.std.specs.Prelude.{◌≡◌, true, ◌*◌, ◌≤◌, ◌<◌, length, get_or};
 ghost use Rattle.limits.specs.Limits.{state_limit};
 ghost use Rattle.bitmaps.specs.Packed.{bytes_for};

@@ -1,4 +1,6 @@
 // The check of a table and the making of the widest table, over slices that stand for the two systems.
+#![tactic(auto)]
+
 ghost use Rattle.std.specs.Prelude.{◌≡◌, ◌*◌, ◌≤◌, length};
 ghost use Rattle.bitmaps.specs.Packed.{bytes_for};
 ghost use Rattle.tables_header.specs.Header.{table_bytes};
@@ -11,7 +13,7 @@ use tables_check::Found;
 use tables_widest::WidestTable;
 
 // The number of pairs set, or what is refused: 18, 19 with (s, t), 20 with the step and (s, t) (SPECIFICATION 13.1).
-#[derive(Drop)]
+#[derive(Clone, Copy)]
 pub enum TableAnswer {
     Accepted(usize),
     StartNotSet,

@@ -3,7 +3,7 @@ use Rattle.std.specs.Prelude.{◌≡◌, List, ℕ, ◌*◌, ◌≤◌, length, 
 use Rattle.limits.specs.Limits.{step_limit, keep_limit, few_bytes}
 use Rattle.bitmaps.specs.Packed.{bytes_for}
 use Rattle.move_tables.specs.declared.Sides.{Sides}
-use Rattle.tables_shifts.specs.Shifts.{Room as Shifts-room}
+use Rattle.tables_shifts.specs.Shifts.{Room as ShiftsRoom}
 
 -- the bytes of a row for each step, for all texts and for those of few states
 abbrev pub rows_limit : ℕ
@@ -21,7 +21,7 @@ pub record Room (sides : Sides) (raster rows seen stamps runs classes masks orde
   pub unseen : (s : ℕ) → get_or seen s 0 ≡ 0
   pub changed : sides.left_states ≤ length stamps
   pub run_each : sides.steps * sides.right_states ≤ length runs
-  pub shift_each : Shifts-room sides.right_states sides.steps classes masks
+  pub shift_each : ShiftsRoom sides.right_states sides.steps classes masks
   pub stacked : sides.left_states ≤ length runs
   pub ordered : sides.left_states ≤ length order
   pub placed : sides.left_states ≤ length first

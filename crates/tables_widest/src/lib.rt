@@ -1,4 +1,6 @@
 // The widest table: of all pairs those that break a rule are taken out, row by row, until none does.
+#![tactic(auto)]
+
 ghost use Rattle.std.specs.Prelude.{◌≡◌, ℕ, ◌*◌, ◌≤◌, ◌<◌, length, get_or};
 ghost use Rattle.limits.specs.Limits.{state_limit, few_states};
 ghost use Rattle.bitmaps.specs.Packed.{bytes_for};
@@ -11,7 +13,7 @@ use move_tables::Sides;
 use tables_settle::Progress;
 
 // The number of pairs set, and whether the start pair is one of them.
-#[derive(Drop)]
+#[derive(Clone, Copy)]
 pub struct WidestTable {
     pub count: usize,
     pub start: bool,

@@ -2,40 +2,32 @@
 // writes for each what the implementation check answers and whether the enumerator says the same (SPECIFICATION 12.9).
 // What is expected comes from tests/make_cases.py, by an independent
 // reading of docs/SPECIFICATION.md.
+#![tactic(auto)]
+
 use enumerator::moves::{ACCEPTED, accepted, same};
-use libc::STDOUT_FILENO;
 use refusals::{Refusal, Verdict};
+use std::io;
 
 // The byte after a tick length and after a text.
 const BETWEEN: u8 = b'#';
 
-fn put(s: &[u8]) {
-    io::write_all(STDOUT_FILENO, s);
+fn put_number(rt: &impl Print, n: usize) -> io::Result<()> {
+    print!(rt; " {n}")
 }
 
-fn put_number(n: usize) {
-    put(b" ");
-    io::print_decimal(STDOUT_FILENO, n as u64);
-}
-
-fn put_answer(f: Refusal) {
+fn put_answer(rt: &impl Print, f: Refusal) -> io::Result<()> {
     if f.code == ACCEPTED {
-        put(b"yes");
-        return;
+        return rt.print("yes");
     }
-    put(b"refused");
-    put_number(f.code);
-    put_number(f.file);
-    put_number(f.p);
-    put_number(f.q);
+    rt.print("refused")?;
+    put_number(rt, f.code)?;
+    put_number(rt, f.file)?;
+    put_number(rt, f.p)?;
+    put_number(rt, f.q)
 }
 
-fn put_agreement(is_same: bool) {
-    if is_same {
-        put(b" same\n");
-        return;
-    }
-    put(b" differs\n");
+fn put_agreement(rt: &impl Print, is_same: bool) -> io::Result<()> {
+    rt.println(if is_same { " same" } else { " differs" })
 }
 
 // What the operation answers.
@@ -47,27 +39,28 @@ fn answer(period: usize, text: &[u8]) -> Refusal {
     }
 }
 
-fn show(period: usize, text: &[u8]) {
+fn show(rt: &impl Print, period: usize, text: &[u8]) -> io::Result<()> {
     let got = answer(period, text);
     let expected = enumerator::reached::implementation(enumerator::safe::read(period, text));
-    put_answer(got);
-    put_agreement(same(expected, got));
+    put_answer(rt, got)?;
+    put_agreement(rt, same(expected, got))
 }
 
-fn show_all(s: &[u8]) {
+fn show_all(rt: &impl Print, s: &[u8]) -> io::Result<()> {
     let mut from: usize = 0;
     while from < s.len() {
         let middle = test_input::end_of(s, from, BETWEEN);
         let start = test_input::after(s, from, middle);
         let end = test_input::end_of(s, start, BETWEEN);
         let period = test_input::decimal(&s[from..middle]);
-        show(period, &s[start..end]);
+        show(rt, period, &s[start..end])?;
         from = test_input::after(s, from, end);
     }
+    Ok(())
 }
 
-fn main() {
+fn main(rt: HostRuntime) -> io::Result<()> {
     let mut buf = test_input::room();
-    let n = io::read_full(libc::STDIN_FILENO, &mut buf);
-    show_all(&buf[..n]);
+    let n = programs::read_input(&rt, &mut buf);
+    show_all(&rt, &buf[..n])
 }

@@ -1,5 +1,7 @@
 // What the test programs share that read their cases from standard input: room for it, parts that end at a byte, and
 // numbers in decimal.
+#![tactic(auto)]
+
 ghost use Rattle.std.specs.Prelude.{◌≡◌, ◌≤◌, ◌<◌, length};
 
 // The room of the input; the contract below says its length.

@@ -3,14 +3,16 @@
 // text and the right one, with a `#` after each. A joined text is read again with tick length 1, and its safe states
 // are counted; where it was joined at that tick length and its start is safe, it is then searched against both texts.
 // What is expected comes from tests/make_cases.py, by an independent reading of docs/SPECIFICATION.md.
-ghost use Rattle.std.specs.Prelude.{◌≡◌, ◌≤◌, ◌<◌, length};
+#![tactic(auto)]
+
+ghost use Rattle.std.specs.Prelude.{◌≡◌, ◌≤◌, ◌<◌, length, IfOk};
 
 use joining::JoinAnswer;
-use libc::STDOUT_FILENO;
 use limits::SHORTEST_TICK;
 use refusals::{Refusal, Verdict};
 use safe_states::SafeAnswer;
 use search::SearchAnswer;
+use std::io;
 
 // The byte after each part of a case.
 const BETWEEN: u8 = b'#';
@@ -30,20 +32,15 @@ const ENTRY_ROOM: usize = 131072;
 
 const RUN_ROOM: usize = 512;
 
-fn put(s: &[u8]) {
-    io::write_all(STDOUT_FILENO, s);
+fn put_number(rt: &impl Print, n: usize) -> io::Result<()> {
+    print!(rt; " {n}")
 }
 
-fn put_number(n: usize) {
-    put(b" ");
-    io::print_decimal(STDOUT_FILENO, n as u64);
-}
-
-fn put_refusal(f: Refusal) {
-    put_number(f.code);
-    put_number(f.file);
-    put_number(f.p);
-    put_number(f.q);
+fn put_refusal(rt: &impl Print, f: Refusal) -> io::Result<()> {
+    put_number(rt, f.code)?;
+    put_number(rt, f.file)?;
+    put_number(rt, f.p)?;
+    put_number(rt, f.q)
 }
 
 // Whether the bytes of a slice are all as they were lent.
@@ -58,12 +55,8 @@ fn is_kept(s: &[u8]) -> bool {
     true
 }
 
-fn put_kept(is_kept: bool) {
-    if is_kept {
-        put(b" kept\n");
-        return;
-    }
-    put(b" changed\n");
+fn put_kept(rt: &impl Print, is_kept: bool) -> io::Result<()> {
+    rt.println(if is_kept { " kept" } else { " changed" })
 }
 
 // Entries to lend. They stand behind a function because antt must not unfold an array of this length.
@@ -74,7 +67,7 @@ fn entries() -> [u32; ENTRY_ROOM]
 }
 
 // How many steps the joined text departs from one of the two by.
-fn put_search(joined: &[u8], text: &[u8]) {
+fn put_search(rt: &impl Print, joined: &[u8], text: &[u8]) -> io::Result<()> {
     let mut keep = [0u8; limits::KEEP_LIMIT];
     let mut back = entries();
     let mut line = entries();
@@ -90,95 +83,108 @@ fn put_search(joined: &[u8], text: &[u8]) {
     );
     match answer {
         SearchAnswer::Refused(f) => {
-            put(b" refused");
-            put_refusal(f);
+            rt.print(" refused")?;
+            put_refusal(rt, f)
         }
-        SearchAnswer::Found(n) => put_number(n),
+        SearchAnswer::Found(n) => put_number(rt, n),
     }
 }
 
 // The number of safe states; whether the start is one.
-fn put_safe(joined: &[u8]) -> bool {
+fn put_safe(rt: &impl Print, joined: &[u8]) -> io::Result<bool> {
     let mut keep = [0u8; limits::KEEP_LIMIT];
     let answer = operations::safe_states(SHORTEST_TICK, joined, &mut keep);
     match answer {
         SafeAnswer::Refused(f) => {
-            put(b" refused");
-            put_refusal(f);
-            false
+            rt.print(" refused")?;
+            put_refusal(rt, f)?;
+            Ok(false)
         }
         SafeAnswer::Found(count, start) => {
-            put(b" safe");
-            put_number(count);
-            start
+            rt.print(" safe")?;
+            put_number(rt, count)?;
+            Ok(start)
         }
     }
 }
 
 // What reading the joined text gives: the refusal, or the number of states.
-fn put_read(joined: &[u8]) {
+fn put_read(rt: &impl Print, joined: &[u8]) -> io::Result<()> {
     let r = operations::read(SHORTEST_TICK, joined);
-    let a = r.answer;
-    match a {
+    match r.answer {
         Verdict::Refused(f) => {
-            put(b"again refused");
-            put_refusal(f);
+            rt.print("again refused")?;
+            put_refusal(rt, f)
         }
         Verdict::Accepted => {
-            put(b"again states");
-            put_number(r.states);
+            rt.print("again states")?;
+            put_number(rt, r.states)
         }
     }
 }
 
 // The joined text, and what it is.
-fn show_joined(period: usize, left: &[u8], right: &[u8], joined: &[u8]) {
-    put(joined);
-    put_read(joined);
-    let start = put_safe(joined);
+fn show_joined(
+    rt: &impl Print,
+    period: usize,
+    left: &[u8],
+    right: &[u8],
+    joined: &[u8],
+) -> io::Result<()> {
+    rt.write_all(joined)?;
+    put_read(rt, joined)?;
+    let start = put_safe(rt, joined)?;
     if !start {
-        put(b" start not safe\n");
-        return;
+        return rt.println(" start not safe");
     }
-    put(b" start safe");
+    rt.print(" start safe")?;
     if period == SHORTEST_TICK {
-        put(b" left");
-        put_search(joined, left);
-        put(b" right");
-        put_search(joined, right);
+        rt.print(" left")?;
+        put_search(rt, joined, left)?;
+        rt.print(" right")?;
+        put_search(rt, joined, right)?;
     }
-    put(b"\n");
+    rt.print("\n")
 }
 
 // What became of the bytes after the first n.
-fn put_behind(out: &[u8], n: usize)
+fn put_behind(rt: &impl Print, out: &[u8], n: usize) -> io::Result<()>
     requires { n ≤ length out.now }
 {
-    let end = out.len();
-    put_kept(is_kept(&out[n..end]));
+    put_kept(rt, is_kept(&out[n..]))
 }
 
-fn show_written(period: usize, left: &[u8], right: &[u8], out: &[u8], n: usize) {
-    let a: usize = 0;
-    put(b"joined");
-    put_number(n);
+fn show_written(
+    rt: &impl Print,
+    period: usize,
+    left: &[u8],
+    right: &[u8],
+    out: &[u8],
+    n: usize,
+) -> io::Result<()> {
+    rt.print("joined")?;
+    put_number(rt, n)?;
     if out.len() < n {
-        put(b" too long\n");
-        return;
+        return rt.println(" too long");
     }
-    put_behind(out, n);
-    show_joined(period, left, right, &out[a..n]);
+    put_behind(rt, out, n)?;
+    show_joined(rt, period, left, right, &out[..n])
 }
 
-fn show(period: usize, left: &[u8], right: &[u8], out: &mut [u8]) {
-    let answer = operations::join(period, left, right, out);
-    match answer {
+fn show(
+    rt: &impl Print,
+    period: usize,
+    left: &[u8],
+    right: &[u8],
+    out: &mut [u8],
+) -> io::Result<()> {
+    match operations::join(period, left, right, out) {
         JoinAnswer::Refused(f) => {
-            put(b"refused");
-            put_refusal(f);
-            put_kept(is_kept(out));
+            rt.print("refused")?;
+            put_refusal(rt, f)?;
+            put_kept(rt, is_kept(out))
         }
-        JoinAnswer::Written(n) => show_written(period, left, right, out, n),
+        JoinAnswer::Written(n) => show_written(rt, period, left, right, out, n),
     }
 }
 
@@ -189,22 +195,36 @@ fn slice_room() -> [u8; SLICE_ROOM]
     [FILL; SLICE_ROOM]
 }
 
-fn show_part(period: usize, left: &[u8], right: &[u8], n: usize, room: &mut [u8]) {
-    let a: usize = 0;
+fn show_part(
+    rt: &impl Print,
+    period: usize,
+    left: &[u8],
+    right: &[u8],
+    n: usize,
+    room: &mut [u8],
+) -> io::Result<()> {
     if n <= room.len() {
-        show(period, left, right, &mut room[a..n]);
+        show(rt, period, left, right, &mut room[..n])?;
     }
+    Ok(())
 }
 
-fn show_case(period: usize, n: usize, left: &[u8], right: &[u8]) {
+fn show_case(
+    rt: &impl Print,
+    period: usize,
+    n: usize,
+    left: &[u8],
+    right: &[u8],
+) -> io::Result<()> {
     let mut room = slice_room();
-    show_part(period, left, right, n, &mut room);
+    show_part(rt, period, left, right, n, &mut room)
 }
 
 // The case at a place; answers where the next one begins.
-fn show_next(s: &[u8], from: usize) -> usize
+fn show_next(rt: &impl Print, s: &[u8], from: usize) -> io::Result<usize>
     requires { from < length s.now }
-    ensures { (from < result) × (result ≤ length s.now) }
+    ensures later { IfOk result (λ next. from < next) }
+    ensures within { IfOk result (λ next. next ≤ length s.now) }
 {
     let a = test_input::end_of(s, from, BETWEEN);
     let second = test_input::after(s, from, a);
@@ -215,15 +235,16 @@ fn show_next(s: &[u8], from: usize) -> usize
     let d = test_input::end_of(s, fourth, BETWEEN);
     let period = test_input::decimal(&s[from..a]);
     let n = test_input::decimal(&s[second..b]);
-    show_case(period, n, &s[third..c], &s[fourth..d]);
-    test_input::after(s, from, d)
+    show_case(rt, period, n, &s[third..c], &s[fourth..d])?;
+    Ok(test_input::after(s, from, d))
 }
 
-fn show_all(s: &[u8]) {
+fn show_all(rt: &impl Print, s: &[u8]) -> io::Result<()> {
     let mut from: usize = 0;
     while from < s.len() {
-        from = show_next(s, from);
+        from = show_next(rt, s, from)?;
     }
+    Ok(())
 }
 
 // It stands behind a function because antt must not unfold an array of this length.
@@ -233,8 +254,8 @@ fn input_room() -> [u8; INPUT_ROOM]
     [0u8; INPUT_ROOM]
 }
 
-fn main() {
+fn main(rt: HostRuntime) -> io::Result<()> {
     let mut buf = input_room();
-    let n = io::read_full(libc::STDIN_FILENO, &mut buf);
-    show_all(&buf[..n]);
+    let n = programs::read_input(&rt, &mut buf);
+    show_all(&rt, &buf[..n])
 }

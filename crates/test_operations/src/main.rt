@@ -5,12 +5,14 @@
 // `R` reading and `S` safe states (of the left), `D` search, `C` check and `W` widest table, with the lengths of keep,
 // of the table to write, of back, line and run, and of the given table, whose bytes follow. A call's word is the tick
 // length.
-ghost use Rattle.std.specs.Prelude.{◌≡◌, ◌+◌, ◌≤◌, ◌<◌, length};
+#![tactic(auto)]
 
-use libc::STDOUT_FILENO;
+ghost use Rattle.std.specs.Prelude.{◌≡◌, ◌+◌, ◌≤◌, ◌<◌, length, IfOk};
+
 use refusals::{Refusal, Verdict};
 use safe_states::SafeAnswer;
 use search::SearchAnswer;
+use std::io;
 use tables::{CheckAnswer, WidestAnswer};
 
 const TEXTS: u8 = b'T';
@@ -68,7 +70,7 @@ const FACTOR: usize = 257;
 const MODULUS: usize = 1000000007;
 
 // The lengths that a call gives: that of a tick, and those of the slices.
-#[derive(Drop)]
+#[derive(Clone, Copy)]
 struct Lengths {
     period: usize,
     keep: usize,
@@ -79,30 +81,21 @@ struct Lengths {
     given: usize,
 }
 
-fn put(s: &[u8]) {
-    io::write_all(STDOUT_FILENO, s);
+fn put_number(rt: &impl Print, n: usize) -> io::Result<()> {
+    print!(rt; " {n}")
 }
 
-fn put_decimal(n: usize) {
-    io::print_decimal(STDOUT_FILENO, n as u64);
+fn put_refused(rt: &impl Print, f: Refusal) -> io::Result<()> {
+    rt.print(" refused")?;
+    put_number(rt, f.code)?;
+    put_number(rt, f.file)?;
+    put_number(rt, f.p)?;
+    put_number(rt, f.q)
 }
 
-fn put_number(n: usize) {
-    put(b" ");
-    put_decimal(n);
-}
-
-fn put_refused(f: Refusal) {
-    put(b" refused");
-    put_number(f.code);
-    put_number(f.file);
-    put_number(f.p);
-    put_number(f.q);
-}
-
-fn put_done(n: usize) {
-    put(b" done");
-    put_number(n);
+fn put_done(rt: &impl Print, n: usize) -> io::Result<()> {
+    rt.print(" done")?;
+    put_number(rt, n)
 }
 
 fn wide(b: u8) -> usize
@@ -125,18 +118,15 @@ fn added(sum: usize, item: usize) -> usize
     (sum * FACTOR + item + 1) % MODULUS
 }
 
-fn put_sum(n: usize, sum: usize) {
-    put_decimal(n);
-    put(b":");
-    put_decimal(sum);
+fn put_sum(rt: &impl Print, n: usize, sum: usize) -> io::Result<()> {
+    print!(rt; "{n}:{sum}")
 }
 
-fn put_hex(s: &[u8]) {
-    let mut i: usize = 0;
-    while i < s.len() {
-        io::print_hex(STDOUT_FILENO, wide(s[i]) as u64, 2);
-        i += 1;
+fn put_hex(rt: &impl Print, s: &[u8]) -> io::Result<()> {
+    for byte in s {
+        print!(rt; "{byte:02x}")?;
     }
+    Ok(())
 }
 
 fn sum_of_bytes(s: &[u8]) -> usize {
@@ -150,31 +140,28 @@ fn sum_of_bytes(s: &[u8]) -> usize {
 }
 
 // The bytes of a slice in hexadecimal, `-` if there are none.
-fn put_bytes(s: &[u8]) {
+fn put_bytes(rt: &impl Print, s: &[u8]) -> io::Result<()> {
     if s.len() == 0 {
-        put(b"-");
-        return;
+        return rt.print("-");
     }
     if s.len() <= WHOLE {
-        put_hex(s);
-        return;
+        return put_hex(rt, s);
     }
-    put_sum(s.len(), sum_of_bytes(s));
+    put_sum(rt, s.len(), sum_of_bytes(s))
 }
 
-fn put_entry(i: usize, entry: u32) {
+fn put_entry(rt: &impl Print, i: usize, entry: u32) -> io::Result<()> {
     if 0 < i {
-        put(b",");
+        rt.print(",")?;
     }
-    io::print_decimal(STDOUT_FILENO, entry as u64);
+    rt.print(entry)
 }
 
-fn put_list(s: &[u32]) {
-    let mut i: usize = 0;
-    while i < s.len() {
-        put_entry(i, s[i]);
-        i += 1;
+fn put_list(rt: &impl Print, s: &[u32]) -> io::Result<()> {
+    for i in 0..s.len() {
+        put_entry(rt, i, s[i])?;
     }
+    Ok(())
 }
 
 fn sum_of_entries(s: &[u32]) -> usize {
@@ -188,21 +175,19 @@ fn sum_of_entries(s: &[u32]) -> usize {
 }
 
 // The entries of a slice in decimal, joined by commas, `-` if there are none.
-fn put_entries(s: &[u32]) {
+fn put_entries(rt: &impl Print, s: &[u32]) -> io::Result<()> {
     if s.len() == 0 {
-        put(b"-");
-        return;
+        return rt.print("-");
     }
     if s.len() <= WHOLE {
-        put_list(s);
-        return;
+        return put_list(rt, s);
     }
-    put_sum(s.len(), sum_of_entries(s));
+    put_sum(rt, s.len(), sum_of_entries(s))
 }
 
-fn put_keep(keep: &[u8]) {
-    put(b" keep ");
-    put_bytes(keep);
+fn put_keep(rt: &impl Print, keep: &[u8]) -> io::Result<()> {
+    rt.print(" keep ")?;
+    put_bytes(rt, keep)
 }
 
 // Whether the entries of a slice are all as they were lent.
@@ -218,60 +203,55 @@ fn is_kept(s: &[u32]) -> bool {
 }
 
 // What became of back or line after a refusal that must leave it alone.
-fn put_scratch(s: &[u32]) {
-    if is_kept(s) {
-        put(b" kept");
-        return;
-    }
-    put(b" changed");
+fn put_scratch(rt: &impl Print, s: &[u32]) -> io::Result<()> {
+    rt.print(if is_kept(s) { " kept" } else { " changed" })
 }
 
-fn put_flag(b: bool) {
-    if b {
-        put_number(1);
-        return;
-    }
-    put_number(0);
+fn put_flag(rt: &impl Print, b: bool) -> io::Result<()> {
+    put_number(rt, usize::from(b))
 }
 
-fn read_call(period: usize, text: &[u8]) {
-    put(b"R");
+fn read_call(rt: &impl Print, period: usize, text: &[u8]) -> io::Result<()> {
+    rt.print("R")?;
     let r = operations::read(period, text);
-    let a = r.answer;
-    match a {
-        Verdict::Refused(f) => put_refused(f),
-        Verdict::Accepted => put_done(r.states),
+    match r.answer {
+        Verdict::Refused(f) => put_refused(rt, f),
+        Verdict::Accepted => put_done(rt, r.states),
     }
 }
 
-fn safe_call(period: usize, text: &[u8], keep: &mut [u8]) {
-    put(b"S");
-    let a = operations::safe_states(period, text, keep);
-    match a {
-        SafeAnswer::Refused(f) => put_refused(f),
+fn put_safe(rt: &impl Print, answer: SafeAnswer) -> io::Result<()> {
+    match answer {
+        SafeAnswer::Refused(f) => put_refused(rt, f),
         SafeAnswer::Found(count, start) => {
-            put_done(count);
-            put_flag(start);
+            put_done(rt, count)?;
+            put_flag(rt, start)
         }
     }
-    put_keep(keep);
+}
+
+fn safe_call(rt: &impl Print, period: usize, text: &[u8], keep: &mut [u8]) -> io::Result<()> {
+    rt.print("S")?;
+    put_safe(rt, operations::safe_states(period, text, keep))?;
+    put_keep(rt, keep)
 }
 
 // Prints the answer, and says whether back and line must be as they came: after every refusal but that of a short run.
-fn put_searched(answer: SearchAnswer) -> bool {
+fn put_searched(rt: &impl Print, answer: SearchAnswer) -> io::Result<bool> {
     match answer {
         SearchAnswer::Refused(f) => {
-            put_refused(f);
-            f.code != RUN_TOO_SHORT
+            put_refused(rt, f)?;
+            Ok(f.code != RUN_TOO_SHORT)
         }
         SearchAnswer::Found(n) => {
-            put_done(n);
-            false
+            put_done(rt, n)?;
+            Ok(false)
         }
     }
 }
 
 fn search_call(
+    rt: &impl Print,
     period: usize,
     left: &[u8],
     right: &[u8],
@@ -279,42 +259,63 @@ fn search_call(
     back: &mut [u32],
     line: &mut [u32],
     run: &mut [u32],
-) {
-    put(b"D");
+) -> io::Result<()> {
+    rt.print("D")?;
     let answer = operations::search(period, left, right, keep, back, line, run);
-    let kept = put_searched(answer);
-    put_keep(keep);
-    put(b" run ");
-    put_entries(run);
+    let kept = put_searched(rt, answer)?;
+    put_keep(rt, keep)?;
+    rt.print(" run ")?;
+    put_entries(rt, run)?;
     if kept {
-        put_scratch(back);
-        put_scratch(line);
+        put_scratch(rt, back)?;
+        put_scratch(rt, line)?;
+    }
+    Ok(())
+}
+
+fn put_checked(rt: &impl Print, answer: CheckAnswer) -> io::Result<()> {
+    match answer {
+        CheckAnswer::Refused(f) => put_refused(rt, f),
+        CheckAnswer::Accepted(count) => put_done(rt, count),
     }
 }
 
-fn check_call(period: usize, left: &[u8], right: &[u8], keep: &mut [u8], table: &[u8]) {
-    put(b"C");
-    let answer = operations::check(period, left, right, keep, table);
-    match answer {
-        CheckAnswer::Refused(f) => put_refused(f),
-        CheckAnswer::Accepted(count) => put_done(count),
-    }
-    put_keep(keep);
+fn check_call(
+    rt: &impl Print,
+    period: usize,
+    left: &[u8],
+    right: &[u8],
+    keep: &mut [u8],
+    table: &[u8],
+) -> io::Result<()> {
+    rt.print("C")?;
+    put_checked(rt, operations::check(period, left, right, keep, table))?;
+    put_keep(rt, keep)
 }
 
-fn widest_call(period: usize, left: &[u8], right: &[u8], keep: &mut [u8], table: &mut [u8]) {
-    put(b"W");
-    let answer = operations::widest(period, left, right, keep, table);
+fn put_made(rt: &impl Print, answer: WidestAnswer) -> io::Result<()> {
     match answer {
-        WidestAnswer::Refused(f) => put_refused(f),
+        WidestAnswer::Refused(f) => put_refused(rt, f),
         WidestAnswer::Made(count, start) => {
-            put_done(count);
-            put_flag(start);
+            put_done(rt, count)?;
+            put_flag(rt, start)
         }
     }
-    put_keep(keep);
-    put(b" table ");
-    put_bytes(table);
+}
+
+fn widest_call(
+    rt: &impl Print,
+    period: usize,
+    left: &[u8],
+    right: &[u8],
+    keep: &mut [u8],
+    table: &mut [u8],
+) -> io::Result<()> {
+    rt.print("W")?;
+    put_made(rt, operations::widest(period, left, right, keep, table))?;
+    put_keep(rt, keep)?;
+    rt.print(" table ")?;
+    put_bytes(rt, table)
 }
 
 // Entries to lend. They stand behind a function because antt must not unfold an array of this length.
@@ -326,6 +327,7 @@ fn entries() -> [u32; ENTRY_ROOM]
 
 // The slices of a call are the first entries of those lent here.
 fn search_parts(
+    rt: &impl Print,
     left: &[u8],
     right: &[u8],
     l: Lengths,
@@ -333,91 +335,92 @@ fn search_parts(
     back: &mut [u32],
     line: &mut [u32],
     run: &mut [u32],
-) {
-    let a: usize = 0;
-    let b = l.back;
-    let n = l.line;
-    let r = l.run;
-    if back.len() < b {
-        return;
-    }
-    if line.len() < n {
-        return;
-    }
-    if run.len() < r {
-        return;
+) -> io::Result<()> {
+    if back.len() < l.back || line.len() < l.line || run.len() < l.run {
+        return Ok(());
     }
     search_call(
+        rt,
         l.period,
         left,
         right,
         keep,
-        &mut back[a..b],
-        &mut line[a..n],
-        &mut run[a..r],
-    );
+        &mut back[..l.back],
+        &mut line[..l.line],
+        &mut run[..l.run],
+    )
 }
 
-fn search_entries(left: &[u8], right: &[u8], l: Lengths, keep: &mut [u8]) {
+fn search_entries(
+    rt: &impl Print,
+    left: &[u8],
+    right: &[u8],
+    l: Lengths,
+    keep: &mut [u8],
+) -> io::Result<()> {
     let mut back = entries();
     let mut line = entries();
     let mut run = [LENT_ENTRY; RUN_ROOM];
-    search_parts(left, right, l, keep, &mut back, &mut line, &mut run);
+    search_parts(rt, left, right, l, keep, &mut back, &mut line, &mut run)
 }
 
-fn widest_part(left: &[u8], right: &[u8], l: Lengths, keep: &mut [u8], table: &mut [u8]) {
-    let a: usize = 0;
-    let n = l.table;
-    if table.len() < n {
-        return;
+fn widest_part(
+    rt: &impl Print,
+    left: &[u8],
+    right: &[u8],
+    l: Lengths,
+    keep: &mut [u8],
+    table: &mut [u8],
+) -> io::Result<()> {
+    if table.len() < l.table {
+        return Ok(());
     }
-    widest_call(l.period, left, right, keep, &mut table[a..n]);
+    widest_call(rt, l.period, left, right, keep, &mut table[..l.table])
 }
 
-fn widest_bytes(left: &[u8], right: &[u8], l: Lengths, keep: &mut [u8]) {
+fn widest_bytes(
+    rt: &impl Print,
+    left: &[u8],
+    right: &[u8],
+    l: Lengths,
+    keep: &mut [u8],
+) -> io::Result<()> {
     let mut table = [LENT_BYTE; TABLE_ROOM];
-    widest_part(left, right, l, keep, &mut table);
+    widest_part(rt, left, right, l, keep, &mut table)
 }
 
-fn two_texts_call(
+fn call(
+    rt: &impl Print,
     letter: u8,
     left: &[u8],
     right: &[u8],
     given: &[u8],
     l: Lengths,
     keep: &mut [u8],
-) {
-    if letter == SEARCH {
-        search_entries(left, right, l, keep);
-        return;
+) -> io::Result<()> {
+    match letter {
+        READ => read_call(rt, l.period, left),
+        SAFE => safe_call(rt, l.period, left, keep),
+        SEARCH => search_entries(rt, left, right, l, keep),
+        CHECK => check_call(rt, l.period, left, right, keep, given),
+        _ => widest_bytes(rt, left, right, l, keep),
     }
-    if letter == CHECK {
-        check_call(l.period, left, right, keep, given);
-        return;
-    }
-    widest_bytes(left, right, l, keep);
 }
 
-fn call(letter: u8, left: &[u8], right: &[u8], given: &[u8], l: Lengths, keep: &mut [u8]) {
-    if letter == READ {
-        read_call(l.period, left);
-        return;
+fn call_part(
+    rt: &impl Print,
+    letter: u8,
+    left: &[u8],
+    right: &[u8],
+    given: &[u8],
+    l: Lengths,
+    keep: &mut [u8],
+) -> io::Result<()> {
+    if keep.len() < l.keep {
+        return Ok(());
     }
-    if letter == SAFE {
-        safe_call(l.period, left, keep);
-        return;
-    }
-    two_texts_call(letter, left, right, given, l, keep);
-}
-
-fn call_part(letter: u8, left: &[u8], right: &[u8], given: &[u8], l: Lengths, keep: &mut [u8]) {
-    let a: usize = 0;
-    let k = l.keep;
-    if keep.len() < k {
-        return;
-    }
-    call(letter, left, right, given, l, &mut keep[a..k]);
-    put(b"\n");
+    call(rt, letter, left, right, given, l, &mut keep[..l.keep])?;
+    rt.print("\n")
 }
 
 // The byte at a place, 0 past the end.
@@ -482,20 +485,20 @@ fn lengths_at(s: &[u8], at: usize) -> Lengths
 }
 
 // The call at a place of the file; answers where the next record begins.
-fn run_call(s: &[u8], at: usize, left: &[u8], right: &[u8]) -> usize
+fn run_call(rt: &impl Print, s: &[u8], at: usize, left: &[u8], right: &[u8]) -> io::Result<usize>
     requires { at < 524288 }
-    ensures { at < result }
+    ensures { IfOk result (λ next. at < next) }
 {
     let letter = byte_at(s, at);
     let l = lengths_at(s, at);
     let a = at + HEAD_BYTES;
     let e = a + l.given;
     if s.len() < e {
-        return e;
+        return Ok(e);
     }
     let mut keep = [LENT_BYTE; KEEP_ROOM];
-    call_part(letter, left, right, &s[a..e], l, &mut keep);
-    e
+    call_part(rt, letter, left, right, &s[a..e], l, &mut keep)?;
+    Ok(e)
 }
 
 // The byte of a text at a place, a space past its end.
@@ -532,30 +535,40 @@ fn lay_texts(s: &[u8], at: usize, left: &mut [u8], right: &mut [u8]) -> usize
 }
 
 // The call at a place, over the texts as long as the record at `from` says.
-fn run_over(s: &[u8], at: usize, from: usize, left: &[u8], right: &[u8]) -> usize
+fn run_over(
+    rt: &impl Print,
+    s: &[u8],
+    at: usize,
+    from: usize,
+    left: &[u8],
+    right: &[u8],
+) -> io::Result<usize>
     requires { (at < 524288) × (from < 524288) }
-    ensures { at < result }
+    ensures { IfOk result (λ next. at < next) }
 {
-    let a: usize = 0;
     let n = number_of(s, from, 1);
     let m = number_of(s, from, 3);
-    if left.len() < n {
-        return at + HEAD_BYTES;
+    if left.len() < n || right.len() < m {
+        return Ok(at + HEAD_BYTES);
     }
-    if right.len() < m {
-        return at + HEAD_BYTES;
-    }
-    run_call(s, at, &left[a..n], &right[a..m])
+    run_call(rt, s, at, &left[..n], &right[..m])
 }
 
-fn run_record(s: &[u8], at: usize, from: usize, left: &mut [u8], right: &mut [u8]) -> usize
+fn run_record(
+    rt: &impl Print,
+    s: &[u8],
+    at: usize,
+    from: usize,
+    left: &mut [u8],
+    right: &mut [u8],
+) -> io::Result<usize>
     requires { (at < 524288) × (from < 524288) }
-    ensures { at < result }
+    ensures { IfOk result (λ next. at < next) }
 {
     if byte_at(s, at) == TEXTS {
-        return lay_texts(s, at, left, right);
+        return Ok(lay_texts(s, at, left, right));
     }
-    run_over(s, at, from, left, right)
+    run_over(rt, s, at, from, left, right)
 }
 
 // Where the record of the texts stands, after the record at `at`.
@@ -569,15 +582,16 @@ fn texts_from(s: &[u8], at: usize, from: usize) -> usize
     from
 }
 
-fn run_all(s: &[u8], left: &mut [u8], right: &mut [u8])
+fn run_all(rt: &impl Print, s: &[u8], left: &mut [u8], right: &mut [u8]) -> io::Result<()>
     requires { length s.now ≤ 524288 }
 {
     let mut from: usize = 0;
     let mut at: usize = 0;
     while at < s.len() {
         from = texts_from(s, at, from);
-        at = run_record(s, at, from, left, right);
+        at = run_record(rt, s, at, from, left, right)?;
     }
+    Ok(())
 }
 
 fn file_room() -> [u8; FILE_ROOM]
@@ -586,10 +600,10 @@ fn file_room() -> [u8; FILE_ROOM]
     [0u8; FILE_ROOM]
 }
 
-fn main() {
+fn main(rt: HostRuntime) -> io::Result<()> {
     let mut buf = file_room();
-    let n = programs::read_file(b"cases", &mut buf);
-    let mut left = io::large_buffer();
-    let mut right = io::large_buffer();
-    run_all(&buf[..n], &mut left, &mut right);
+    let n = programs::read_file(&rt, b"cases", &mut buf);
+    let mut left = programs::text_room();
+    let mut right = programs::text_room();
+    run_all(&rt, &buf[..n], &mut left, &mut right)
 }

@@ -1,8 +1,9 @@
 // Small random texts and pairs of them through the seven operations at random tick lengths, compared with the plain
 // enumerator: the answers and everything that is lent. Prints one line: the calls by kind of answer, and the
 // differences, which are 0. What it must print comes from tests/random_counts.py.
+#![tactic(auto)]
+
 use enumerator::moves::ACCEPTED;
-use libc::STDOUT_FILENO;
 use limits::LARGEST_TEXT;
 use random_calls::{
     DEPARTURES, DIFFERENCES, IMPLEMENTATIONS, JOINED, LATE, LATE_JOINED, LATE_PAIRS, LEFT_OUT,
@@ -10,6 +11,7 @@ use random_calls::{
     WITH_START,
 };
 use random_texts::{Pen, Shape};
+use std::io;
 
 // The number of pairs of texts, and the seed of them all.
 const CASES: usize = 4000;
@@ -83,7 +85,7 @@ fn both_orders(period: usize, left: &[u8], right: &[u8], seed: u32, tally: &mut 
 
 // A text beside one that is a byte too long (SPECIFICATION 4.3).
 fn long_beside(period: usize, text: &[u8], seed: u32, tally: &mut [usize]) {
-    let long = io::large_buffer();
+    let long = programs::text_room();
     let a: usize = 0;
     let n = LARGEST_TEXT + 1;
     both_orders(period, text, &long[a..n], seed, tally);
@@ -208,50 +210,51 @@ fn run_cases(tally: &mut [usize]) {
     }
 }
 
-fn put_entry(w: &[u8], tally: &[usize], k: usize) {
-    programs::put(w);
+fn put_entry(rt: &impl Print, w: &str, tally: &[usize], k: usize) -> io::Result<()> {
+    rt.print(w)?;
     if k < tally.len() {
-        io::print_decimal(STDOUT_FILENO, tally[k] as u64);
+        rt.print(tally[k])?;
     }
+    Ok(())
 }
 
 // A code and the number of calls that it answers.
-fn put_code(tally: &[usize], k: usize) {
-    programs::put(b" ");
-    io::print_decimal(STDOUT_FILENO, k as u64);
-    put_entry(b":", tally, k);
+fn put_code(rt: &impl Print, tally: &[usize], k: usize) -> io::Result<()> {
+    print!(rt; " {k}")?;
+    put_entry(rt, ":", tally, k)
 }
 
-fn put_codes(tally: &[usize]) {
+fn put_codes(rt: &impl Print, tally: &[usize]) -> io::Result<()> {
     for k in 1..DIFFERENCES {
-        put_code(tally, k);
+        put_code(rt, tally, k)?;
     }
+    Ok(())
 }
 
-fn put_line(tally: &[usize]) {
-    put_entry(b"differences ", tally, DIFFERENCES);
-    put_entry(b", departures ", tally, DEPARTURES);
-    put_entry(b", none ", tally, NO_DEPARTURE);
-    put_entry(b", start pairs ", tally, WITH_START);
-    put_entry(b", implementations ", tally, IMPLEMENTATIONS);
-    put_entry(b", rounded ", tally, ROUNDED);
-    put_entry(b", joined ", tally, JOINED);
-    put_entry(b", parallel ", tally, PARALLEL);
-    put_entry(b", parallel pairs ", tally, PARALLEL_PAIRS);
-    put_entry(b", parallel joined ", tally, PARALLEL_JOINED);
-    put_entry(b", late ", tally, LATE);
-    put_entry(b", late pairs ", tally, LATE_PAIRS);
-    put_entry(b", late joined ", tally, LATE_JOINED);
-    put_entry(b", overridden ", tally, OVERRIDDEN);
-    put_entry(b", left out ", tally, LEFT_OUT);
-    put_entry(b", accepted ", tally, ACCEPTED);
-    programs::put(b", refused");
-    put_codes(tally);
-    programs::put(b"\n");
+fn put_line(rt: &impl Print, tally: &[usize]) -> io::Result<()> {
+    put_entry(rt, "differences ", tally, DIFFERENCES)?;
+    put_entry(rt, ", departures ", tally, DEPARTURES)?;
+    put_entry(rt, ", none ", tally, NO_DEPARTURE)?;
+    put_entry(rt, ", start pairs ", tally, WITH_START)?;
+    put_entry(rt, ", implementations ", tally, IMPLEMENTATIONS)?;
+    put_entry(rt, ", rounded ", tally, ROUNDED)?;
+    put_entry(rt, ", joined ", tally, JOINED)?;
+    put_entry(rt, ", parallel ", tally, PARALLEL)?;
+    put_entry(rt, ", parallel pairs ", tally, PARALLEL_PAIRS)?;
+    put_entry(rt, ", parallel joined ", tally, PARALLEL_JOINED)?;
+    put_entry(rt, ", late ", tally, LATE)?;
+    put_entry(rt, ", late pairs ", tally, LATE_PAIRS)?;
+    put_entry(rt, ", late joined ", tally, LATE_JOINED)?;
+    put_entry(rt, ", overridden ", tally, OVERRIDDEN)?;
+    put_entry(rt, ", left out ", tally, LEFT_OUT)?;
+    put_entry(rt, ", accepted ", tally, ACCEPTED)?;
+    rt.print(", refused")?;
+    put_codes(rt, tally)?;
+    rt.print("\n")
 }
 
-fn main() {
+fn main(rt: HostRuntime) -> io::Result<()> {
     let mut tally = [0usize; TALLY];
     run_cases(&mut tally);
-    put_line(&tally);
+    put_line(&rt, &tally)
 }

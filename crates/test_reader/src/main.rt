@@ -2,7 +2,10 @@
 // says whether the text is read as it is (`0`), with spaces after it up to the largest length (`1`) or to one more (`2`),
 // or with spaces before it up to the largest length (`3`). A space, the tick length in decimal and a line feed follow.
 // The expected output comes from tests/make_cases.py, by an independent reading of docs/SPECIFICATION.md.
+#![tactic(auto)]
+
 use limits::LARGEST_TEXT;
+use std::io;
 
 // The byte after a text, and that after its tick length.
 const TEXT_END: u8 = b'%';
@@ -36,70 +39,65 @@ fn lay(t: &[u8], from: usize, room: &mut [u8]) {
     }
 }
 
-fn show(period: usize, t: &[u8]) {
-    let p = reader::parse(period, t);
-    reader_print::print(p);
+fn show(rt: &impl Print, period: usize, t: &[u8]) -> io::Result<()> {
+    reader_print::print(rt, reader::parse(period, t))
 }
 
 // The first n bytes.
-fn show_first(period: usize, s: &[u8], n: usize) {
+fn show_first(rt: &impl Print, period: usize, s: &[u8], n: usize) -> io::Result<()> {
     if n <= s.len() {
-        show(period, &s[..n]);
+        show(rt, period, &s[..n])?;
     }
+    Ok(())
 }
 
 // The text t from a place on, with spaces up to n bytes.
-fn show_long(period: usize, t: &[u8], from: usize, n: usize) {
-    let mut room = io::large_buffer();
+fn show_long(rt: &impl Print, period: usize, t: &[u8], from: usize, n: usize) -> io::Result<()> {
+    let mut room = programs::text_room();
     lay(t, from, &mut room);
-    show_first(period, &room, n);
+    show_first(rt, period, &room, n)
 }
 
 // The text t at the end of the largest length.
-fn show_last(period: usize, t: &[u8]) {
+fn show_last(rt: &impl Print, period: usize, t: &[u8]) -> io::Result<()> {
     if t.len() <= LARGEST_TEXT {
-        show_long(period, t, LARGEST_TEXT - t.len(), LARGEST_TEXT);
+        show_long(rt, period, t, LARGEST_TEXT - t.len(), LARGEST_TEXT)?;
+    }
+    Ok(())
+}
+
+fn show_as(rt: &impl Print, period: usize, t: &[u8], how: u8) -> io::Result<()> {
+    match how {
+        b'1' => show_long(rt, period, t, 0, LARGEST_TEXT),
+        b'2' => show_long(rt, period, t, 0, LARGEST_TEXT + 1),
+        b'3' => show_last(rt, period, t),
+        _ => show(rt, period, t),
     }
 }
 
-fn show_as(period: usize, t: &[u8], how: u8) {
-    if how == b'1' {
-        show_long(period, t, 0, LARGEST_TEXT);
-        return;
-    }
-    if how == b'2' {
-        show_long(period, t, 0, LARGEST_TEXT + 1);
-        return;
-    }
-    if how == b'3' {
-        show_last(period, t);
-        return;
-    }
-    show(period, t);
-}
-
-fn texts(s: &[u8]) {
+fn texts(rt: &impl Print, s: &[u8]) -> io::Result<()> {
     let mut at = 0;
     let mut k: u64 = 1;
     while at < s.len() {
         let e = test_input::end_of(s, at, TEXT_END);
         if s.len() - e < MIDDLE_BYTES {
-            return;
+            return Ok(());
         }
         let from = e + MIDDLE_BYTES;
         let end = test_input::end_of(s, from, LINE_END);
         let period = test_input::decimal(&s[from..end]);
-        io::print_decimal(1, k);
-        show_as(period, &s[at..e], s[e + 1]);
+        rt.print(k)?;
+        show_as(rt, period, &s[at..e], s[e + 1])?;
         at = test_input::after(s, at, end);
         if k < LAST_NUMBER {
             k += 1;
         }
     }
+    Ok(())
 }
 
-fn main() {
+fn main(rt: HostRuntime) -> io::Result<()> {
     let mut buf = test_input::room();
-    let n = io::read_full(0, &mut buf);
-    texts(&buf[..n]);
+    let n = programs::read_input(&rt, &mut buf);
+    texts(&rt, &buf[..n])
 }

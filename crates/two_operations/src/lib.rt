@@ -1,5 +1,7 @@
 // The search, the check and the widest table of two texts, in slices that have room for both: the texts are judged by
 // codes 24 and 1 to 12 and become two systems, and the operation on systems does the rest.
+#![tactic(auto)]
+
 ghost use Rattle.std.specs.Prelude.{◌≡◌, length};
 ghost use Rattle.two_texts.specs.Measured.{MeasuresTwo, Rooms};
 ghost use Rattle.search.specs.Outcome.{Outcome, Scratch};

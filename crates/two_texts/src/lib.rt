@@ -1,5 +1,7 @@
 // Reads the two texts of an operation, pairs their channels by name and tabulates both: codes 24
 // and 1 to 12.
+#![tactic(auto)]
+
 ghost use Rattle.std.specs.Prelude.{◌≡◌, ◌*◌, ◌≤◌, length};
 ghost use Rattle.clocks_table.specs.Room.{Room};
 ghost use Rattle.clocks_read.specs.Measured.{Measures};
@@ -19,7 +21,7 @@ use refusals::{LEFT_FILE, RIGHT_FILE, Refusal, Verdict};
 
 // What reading two texts gives: whether both are accepted and their channels pair up; then their sizes and starts, and
 // which steps are inputs. Beside a refusal all is 0 and false.
-#[derive(Drop)]
+#[derive(Clone, Copy)]
 pub struct TwoTexts {
     pub answer: Verdict,
     pub sides: Sides,
@@ -27,7 +29,7 @@ pub struct TwoTexts {
 }
 
 // Two texts, parsed and measured, and whether both have few states.
-#[derive(Drop)]
+#[derive(Clone, Copy)]
 pub struct MeasuredTexts {
     pub left: Measured,
     pub right: Measured,

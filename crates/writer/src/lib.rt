@@ -1,4 +1,6 @@
 // The whole text of a record put into a slice (SPECIFICATION 18.7).
+#![tactic(auto)]
+
 ghost use Rattle.byte_slices.specs.Put.{Puts};
 ghost use Rattle.written.specs.Written.{written_with};
 ghost use Rattle.written_names.specs.Spelled.{channel_spellings};

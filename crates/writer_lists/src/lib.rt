@@ -1,5 +1,7 @@
 // The lists of a text put into a slice (SPECIFICATION 18.7): channels, clocks, locations and edges. A list without
 // items is left out. Each function puts tokens at a place and returns the place behind them.
+#![tactic(auto)]
+
 ghost use Rattle.std.specs.Prelude.{◌≤◌, ◌<◌};
 ghost use Rattle.limits.specs.Limits.{channel_limit};
 ghost use Rattle.written.specs.Written.{location_tokens};

@@ -1,5 +1,7 @@
 // How many underscores the names stand behind that are made for a text (SPECIFICATION 18.6). No name is written to find
 // that out: the bytes of each channel's name are compared, from the last one on, with those of a name that is made.
+#![tactic(auto)]
+
 ghost use Rattle.std.specs.Prelude.{◌≡◌, [], ◌∷◌, ◌++◌, ◌+◌, ◌≤◌, length, replicate};
 ghost use Rattle.systems.specs.Tests.{any};
 ghost use Rattle.limits.specs.Limits.{channel_limit};

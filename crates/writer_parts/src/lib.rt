@@ -1,5 +1,7 @@
 // The parts of a text put into a slice (SPECIFICATION 18.7): comparisons, constraints, locations, labels,
 // assignments and edges. Each function puts tokens at a place and returns the place behind them.
+#![tactic(auto)]
+
 ghost use Rattle.std.specs.Prelude.{◌≡◌, ◌||◌, [], ◌∷◌, ◌≤◌, ◌<◌, get_or};
 ghost use Rattle.limits.specs.Limits.{channel_limit, clock_limit, comparison_limit};
 ghost use Rattle.reader_record.specs.Record.{channel};

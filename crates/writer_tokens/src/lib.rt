@@ -1,5 +1,7 @@
 // Tokens put into a slice, each with the space behind it. Each function puts bytes at a place and returns the place
 // behind them; a byte for which the slice has no place is dropped, so no function asks for room.
+#![tactic(auto)]
+
 ghost use Rattle.std.specs.Prelude.{[], ◌∷◌, ◌+◌, ◌≤◌, length, replicate};
 ghost use Rattle.byte_slices.specs.Decimal.{decimal};
 ghost use Rattle.byte_slices.specs.Put.{Puts};

@@ -1,0 +1,10 @@
+-- `parallel::has_parallel` is safe and ends.
+use Rattle.std.proofs.Common.{◌-◌, ◌≤◌, rules}
+use Rattle.limits.specs.Limits.{step_limit}
+use Rattle.enumerator.proofs.parallel.has_parallel.Given as goal
+
+abbrev pub invariant-loop-channel : goal.invariant-loop-channel
+invariant-loop-channel l = l.channel ≤ step_limit
+
+abbrev pub decreases-loop-channel : goal.decreases-loop-channel
+decreases-loop-channel l = step_limit - l.channel

@@ -1,0 +1,10 @@
+-- `records::same_assignments` is safe and ends.
+use Rattle.std.proofs.Common.{◌-◌, ◌≤◌, rules}
+use Rattle.limits.specs.Limits.{clock_limit}
+use Rattle.enumerator.proofs.records.same_assignments.Given as goal
+
+abbrev pub invariant-loop-k : goal.invariant-loop-k
+invariant-loop-k l = l.k ≤ clock_limit
+
+abbrev pub decreases-loop-k : goal.decreases-loop-k
+decreases-loop-k l = clock_limit - l.k

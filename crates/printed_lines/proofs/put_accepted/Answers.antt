@@ -1,0 +1,11 @@
+-- The line of a count.
+use borrow.Author.Rules.{rules}
+use native.Mathlib.Omega.{arith}
+use Rattle.printed_lines.specs.Lines.{accepted_line}
+use Rattle.printed_lines.proofs.put_accepted.Goals as goal
+
+pub returns : goal.returns
+unfolding accepted_line
+returns c =
+    let counted = c.put_count.ensures in
+    record { puts = counted.puts; short = omega (arith, counted.short) }

@@ -1,0 +1,16 @@
+-- The word and the four numbers, one after another.
+use borrow.Author.Rules.{rules}
+use Rattle.printed_lines.proofs.Laws.{four_numbers}
+use Rattle.byte_slices.specs.Put.{puts_none, puts_then}
+use Rattle.printed_lines.specs.Lines.{refusal_line, line, spaced}
+use Rattle.printed_lines.proofs.put_refusal.Goals as goal
+
+pub returns : goal.returns
+unfolding refusal_line line spaced
+returns c =
+    let numbers = puts_then c.put_spaced-code.ensures.puts (puts_then c.put_spaced-file.ensures.puts
+    (puts_then c.put_spaced-p.ensures.puts (puts_then c.put_spaced-q.ensures.puts puts_none))) in record {
+      puts = puts_then (puts_then c.put_bytes-word.ensures numbers) c.put_byte.ensures;
+      short = four_numbers c.args.f c.put_spaced-code.ensures.short c.put_spaced-file.ensures.short c.put_spaced-p.ensures.short
+          c.put_spaced-q.ensures.short;
+    }

@@ -1,0 +1,11 @@
+-- `reader_numbers::put_two` meets its contract, by the callees' contracts and the laws of numbers in a row.
+use mathlib.Core.Path.{refl}
+use mathlib.Core.List.{[], ◌∷◌}
+use Rattle.reader_numbers.proofs.Laws.{joined}
+use borrow.Author.Rules.{rules}
+use Rattle.reader_numbers.proofs.put_two.Goals as goal
+
+pub returns : goal.returns
+returns c =
+    let args = c.args in
+    joined args.out.now args.at (args.x ∷ []) (args.y ∷ []) c.put.ensures c.put-2.ensures refl

@@ -1,0 +1,21 @@
+-- first_bad tests one step after the other: from step c on the answer is still open.
+use borrow.Author.Rules.{rules}
+use native.Mathlib.Nat.{sub-zero}
+use native.Mathlib.Omega.{arith}
+use mathlib.Core.Path.{◌≡◌, sym, ◌∙◌, ap}
+use mathlib.Core.Bool.{not}
+use Prim.Native.Nat.{◌+◌, ◌-◌, ◌*◌, ◌≤◌, ◌<◌}
+use Rattle.systems.specs.Tests.{least}
+use Rattle.limits.specs.Limits.{move_limit}
+use Rattle.move_tables.specs.MoveLaws.{target, reach, base_few}
+use Rattle.tables_check.specs.Scan.{fails_at, first_bad}
+use Rattle.tables_check.proofs.Laws.{least_yes, least_no, least_end}
+use Rattle.tables_check.proofs.first_bad.Given as goal
+
+abbrev pub invariant-loop-c : goal.invariant-loop-c
+invariant-loop-c l =
+    (l.c ≤ l.steps) × (least (fails_at l.lm l.rm l.w l.steps l.raster l.s l.t) l.c (l.steps - l.c) ≡ least
+    (fails_at l.lm l.rm l.w l.steps l.raster l.s l.t) 0 l.steps)
+
+abbrev pub decreases-loop-c : goal.decreases-loop-c
+decreases-loop-c l = l.steps - l.c

@@ -1,0 +1,12 @@
+-- The word, the channel, the mark, the end.
+use borrow.Author.Rules.{rules}
+use Rattle.written.specs.Written.{label_tokens}
+use Rattle.writer_tokens.specs.TokenLaws.{tokens_then}
+use Rattle.writer_parts.proofs.put_label.Goals as goal
+
+pub returns : goal.returns
+unfolding label_tokens
+returns c =
+    tokens_then c.put_token-start.ensures (tokens_then
+    (rw c.channel_of-c.ensures at c.put_channel-name.ensures) (tokens_then c.put_mark-mark.ensures
+    c.put_token.ensures))

@@ -1,0 +1,9 @@
+-- The digits, then the space.
+use borrow.Author.Rules.{rules}
+use Rattle.writer_tokens.specs.TokenLaws.{token_puts}
+use Rattle.writer_tokens.proofs.put_decimal.Goals as goal
+
+pub returns : goal.returns
+returns c =
+    token_puts c.put_number-end.ensures
+    c.put_space.ensures
