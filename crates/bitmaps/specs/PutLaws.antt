@@ -6,7 +6,7 @@ use Rattle.std.proofs.Math.ListN.{get_or}
 use Rattle.std.proofs.Math.Seq.{get_or-set_other}
 use Rattle.systems.specs.Bools.{T_true, T_false}
 use Rattle.systems.specs.Tests.{at, table}
-use Rattle.systems.specs.Sieve.{at_table}
+use Rattle.systems.proofs.Sieve.{at_table}
 use Rattle.bitmaps.specs.Bits.{bit_at, num, byte_of, written}
 use Rattle.bitmaps.specs.BitLaws.{written_same, written_is, written_at, written_past, written_length, byte_same, bit_of, cleared_here, eight, less}
 use Rattle.bitmaps.specs.Packed.{bytes_for, packed}

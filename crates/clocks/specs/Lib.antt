@@ -12,8 +12,4 @@ pub mod Signs
 pub mod Agreement
 pub mod Judgement
 pub mod Standing
-pub mod Assigned
-pub mod Found
 pub mod Contract
-pub mod Results
-pub mod Encoded

@@ -10,7 +10,7 @@ use Rattle.refusals.specs.declared.Verdict.{Verdict}
 use Rattle.refusals.specs.declared.Verdict.TheVariants as verdict
 use Rattle.reader.specs.declared.Parsed.{Parsed}
 use Rattle.reader.specs.Reading.{read_text}
-use Rattle.reader_formed.specs.Formed.{read_formed}
+use Rattle.reader_formed.proofs.Formed.{read_formed}
 use Rattle.clocks.specs.declared.Judged.{Judged}
 use Rattle.clocks_states.specs.Parts.{Counted}
 use Rattle.clocks.specs.States.{judgement}

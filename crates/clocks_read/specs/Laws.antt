@@ -6,7 +6,7 @@ use Rattle.reader_record.specs.declared.Text.{Text}
 use Rattle.refusals.specs.declared.Verdict.{Verdict}
 use Rattle.refusals.specs.declared.Verdict.TheVariants as verdict
 use Rattle.reader.specs.Reading.{read_text}
-use Rattle.reader_formed.specs.Formed.{read_formed}
+use Rattle.reader_formed.proofs.Formed.{read_formed}
 use Rattle.bitmaps.specs.Bits.{written}
 use Rattle.bitmaps.specs.Packed.{packed}
 use Rattle.clocks.specs.declared.Judged.{Judged}

@@ -11,9 +11,9 @@ use lib.ListN.{length, get_or, set, get_or-eq_default}
 use lib.Seq.{get_or-set_other}
 use Rattle.systems.specs.Bools.{T_true}
 use Rattle.systems.specs.Tests.{at, ones, table, stage}
-use Rattle.systems.specs.Sieve.{ones_table, Between, between_start, between_clear, between_done, length_table, length_stage, same_table}
+use Rattle.systems.proofs.Sieve.{ones_table, Between, between_start, between_clear, between_done, length_table, length_stage, same_table}
 use Rattle.systems.specs.Finite.{safe_test, safe_states}
-use Rattle.systems.specs.Safe.{safe_rule}
+use Rattle.systems.proofs.Safe.{safe_rule}
 use Rattle.bitmaps.specs.Bits.{bit_at, written}
 use Rattle.bitmaps.specs.BitLaws.{less}
 use Rattle.bitmaps.specs.PackedLaws.{packed_copy, packed_self, packed_same, packed_bit, packed_clear, packed_unique, ones_clear}

@@ -1,10 +1,10 @@
 -- What holds while states are taken out of a bitmap, and that what is left in the end are the safe states.
 use Rattle.std.specs.Prelude.{◌≡◌, ◌⊎◌, Bool, true, false, List, ℕ, ◌-◌, ◌/◌, ◌%◌, ◌^◌, ◌≤◌, ◌<◌, get_or, set}
 use Rattle.systems.specs.Tests.{ones, table}
-use Rattle.systems.specs.Sieve.{Between}
+use Rattle.systems.proofs.Sieve.{Between}
 use Rattle.systems.specs.Definitions.{Signature}
 use Rattle.systems.specs.Finite.{FiniteSystem, safe_states}
-use Rattle.systems.specs.Safe.{safe_rule}
+use Rattle.systems.proofs.Safe.{safe_rule}
 use Rattle.bitmaps.specs.Bits.{bit_at}
 use Rattle.move_tables.specs.Moves.{Encoded}
 use Rattle.bitmaps.specs.Packed.{Packed, packed}

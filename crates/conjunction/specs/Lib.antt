@@ -1,6 +1,3 @@
 pub mod Definitions
 pub mod Parts
 pub mod Conjunction
-pub mod Exactly
-pub mod Matched
-pub mod Carried

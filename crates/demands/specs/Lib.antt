@@ -1,13 +1,3 @@
-pub mod Theorems
 pub mod Words
 pub mod Demands
 pub mod Answers
-pub mod Same
-pub mod Kept
-pub mod Files
-pub mod Faults
-pub mod Searched
-pub mod Widened
-pub mod Answered
-pub mod Checked
-pub mod Long

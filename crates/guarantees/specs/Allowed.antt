@@ -19,8 +19,8 @@ use Rattle.systems.specs.Finite.{FiniteSystem}
 use Rattle.reader_record.specs.declared.Text.{Text}
 use Rattle.reader.specs.declared.Parsed.{Parsed}
 use Rattle.reader.specs.Reading as reader
-use Rattle.reader_formed.specs.Cases.{either}
-use Rattle.reader_constraints.specs.Ticks.{ticks_below, ticks_above, one_millisecond}
+use Rattle.reader_formed.proofs.Cases.{either}
+use Rattle.reader_constraints.proofs.Ticks.{ticks_below, ticks_above, one_millisecond}
 use Rattle.reachable.specs.declared.Finding.{Finding}
 use Rattle.reachable.specs.declared.Finding.TheVariants.{Nothing, OutputBesideTick, NeitherPossible}
 use Rattle.bitmaps.specs.Packed.{bytes_for}
@@ -32,11 +32,11 @@ use Rattle.clocks_read.specs.Reading.{parsed_reading, read_outcome}
 use Rattle.pairing.specs.declared.Matched.{Matched}
 use Rattle.pairing.specs.Channels as channels
 use Rattle.two_texts.specs.Two.{text_of, tick_judged, too_long_in, refused_in, refused_pairing, or_else, texts_judged, channels_judged, two_judged, left_system, right_system, judged_by}
-use Rattle.two_texts.specs.Laws.{compared, judged_by_some}
+use Rattle.two_texts.proofs.Laws.{compared, judged_by_some}
 use Rattle.two_texts.specs.Loaded.{refusal_in}
 use Rattle.safe_states.specs.Outcome as safe
 use Rattle.safe_states.specs.Outcome.{kept_outcome, found_outcome, safe_outcome}
-use Rattle.implementation_check.specs.Codes.{CodeAt, reading_codes}
+use Rattle.implementation_check.proofs.Codes.{CodeAt, reading_codes}
 use Rattle.implementation_check.specs.Outcome as checking
 use Rattle.implementation_check.specs.Outcome.{found_answer, text_finding, implementation_outcome}
 use Rattle.search.specs.Outcome as search

@@ -9,14 +9,14 @@ use Rattle.reader_record.specs.declared.Text.{Text}
 use Rattle.systems.specs.Tests.{at, ones, table}
 use Rattle.systems.specs.Definitions.{LargestSafeSet}
 use Rattle.systems.specs.Finite as finite
-use Rattle.systems.specs.Theorems.{safe_states_largest, implementation_iff, start_safe_iff}
+use Rattle.systems.proofs.Theorems.{safe_states_largest, implementation_iff, start_safe_iff}
 use Rattle.bitmaps.specs.Bits.{bit_at}
 use Rattle.bitmaps.specs.Packed.{bytes_for, packed}
-use Rattle.systems.specs.Sieve.{length_table}
+use Rattle.systems.proofs.Sieve.{length_table}
 use Rattle.tables_rows.specs.TableLaws.{table_at}
 use Rattle.clocks.specs.States.{state_count, start_state}
 use Rattle.clocks.specs.Safe.{safe_states}
-use Rattle.clocks.specs.Encoded.{safe_states_same}
+use Rattle.clocks.proofs.Encoded.{safe_states_same}
 use Rattle.clocks.specs.Accepted.{Accepted}
 use Rattle.clocks.specs.Contract.{system}
 use Rattle.refusals.specs.declared.Verdict.{Verdict}
@@ -26,8 +26,8 @@ use Rattle.safe_states.specs.declared.SafeAnswer.TheVariants.{Refused}
 use Rattle.safe_states.specs.Outcome.{Outcome, found_outcome, kept_outcome, answered, safe_outcome}
 use Rattle.safe_states.specs.Consistent.{succeeds}
 use Rattle.demands.specs.Words.{Keeps, LongEnough}
-use Rattle.demands.specs.Same.{same_safe}
-use Rattle.demands.specs.Kept.{packed_byte, safe_length, keeps}
+use Rattle.demands.proofs.Same.{same_safe}
+use Rattle.demands.proofs.Kept.{packed_byte, safe_length, keeps}
 use Rattle.guarantees.specs.Texts.{AcceptedText, states, meaning, number, safe_refusal}
 use Rattle.guarantees.specs.Demands.{SafeDemand}
 use Rattle.guarantees.specs.Setting.{states_are, one_capping, numbered_states, numbered_number}

@@ -14,7 +14,7 @@ use Rattle.systems.specs.Definitions.{LargestSafeSet}
 use Rattle.clocks_read.specs.Reading.{read_outcome}
 use Rattle.clocks_read.specs.Laws.{read_accepted}
 use Rattle.two_texts.specs.Two.{text_of, two_judged}
-use Rattle.two_texts.specs.Laws.{judged_none, channels_equal, judged_by_some}
+use Rattle.two_texts.proofs.Laws.{judged_none, channels_equal, judged_by_some}
 use Rattle.safe_states.specs.Outcome.{safe_outcome}
 use Rattle.implementation_check.specs.Outcome.{implementation_outcome}
 use Rattle.search.specs.declared.SearchAnswer.TheVariants as search-answer
@@ -28,7 +28,7 @@ use Rattle.tables.specs.declared.WidestAnswer.TheVariants as made
 use Rattle.tables.specs.Outcome.{Checked, Widened}
 use Rattle.demands.specs.Words.{Consistent, search_refusal, check_refusal, widest_refusal, LongEnough, RightForm}
 use Rattle.demands.specs.Demands.{SearchDemand, CheckDemand, WidestDemand}
-use Rattle.demands.specs.Theorems as demands
+use Rattle.demands.proofs.Theorems as demands
 use Rattle.demands.specs.Answers.{SearchAnswers, CheckAnswers, WidestAnswers}
 use Rattle.guarantees.specs.Texts.{AcceptedText, states, meaning, number, right_meaning, right_number, EqualChannels, safe_refusal}
 use Rattle.guarantees.specs.Demands.{SafeDemand}

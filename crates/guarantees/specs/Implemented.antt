@@ -8,21 +8,21 @@ use Rattle.refusals.specs.Refusals.{output_beside_tick, neither_possible}
 use Rattle.refusals.specs.declared.Verdict.{Verdict}
 use Rattle.refusals.specs.declared.Verdict.TheVariants.{Accepted, Refused}
 use Rattle.systems.specs.Definitions.{LargestSafeSet}
-use Rattle.systems.specs.Theorems.{safe_states_largest, start_safe_iff}
+use Rattle.systems.proofs.Theorems.{safe_states_largest, start_safe_iff}
 use Rattle.reachable.specs.declared.Finding.{Finding}
 use Rattle.reachable.specs.declared.Finding.TheVariants.{Nothing, OutputBesideTick, NeitherPossible}
 use Rattle.reachable.specs.Check.{system_finding}
 use Rattle.reachable.specs.Meaning.{Says, OwnImplementation}
-use Rattle.reachable.specs.Theorems.{finding_exactly, own_implementation, found_safe}
+use Rattle.reachable.proofs.Theorems.{finding_exactly, own_implementation, found_safe}
 use Rattle.clocks.specs.Accepted as clocks
 use Rattle.clocks.specs.Contract.{system}
 use Rattle.clocks_read.specs.Reading.{read_outcome}
 use Rattle.clocks_read.specs.Laws.{read_accepted}
 use Rattle.two_texts.specs.Two.{text_of}
 use Rattle.implementation_check.specs.Outcome.{found_answer, answered, implementation_outcome}
-use Rattle.implementation_check.specs.Laws.{finding_same}
-use Rattle.implementation_check.specs.Codes.{last_code, CodeAt, too_late, reading_codes}
-use Rattle.demands.specs.Same.{same_safe}
+use Rattle.implementation_check.proofs.Laws.{finding_same}
+use Rattle.implementation_check.proofs.Codes.{last_code, CodeAt, too_late, reading_codes}
+use Rattle.demands.proofs.Same.{same_safe}
 use Rattle.guarantees.specs.Texts.{AcceptedText, meaning, number}
 use Rattle.guarantees.specs.Implementations.{ImplementationDemand}
 use Rattle.guarantees.specs.Setting.{one_capping, numbered_number}

@@ -17,9 +17,9 @@ use Rattle.clocks.specs.Accepted.{Accepted}
 use Rattle.clocks_read.specs.Reading.{judged_reading, parsed_reading, read_outcome}
 use Rattle.clocks_read.specs.Laws.{read_accepted}
 use Rattle.two_texts.specs.Two.{text_of, two_judged}
-use Rattle.two_texts.specs.Laws.{judged_none, channels_equal, judged_by_none, judged_by_some}
+use Rattle.two_texts.proofs.Laws.{judged_none, channels_equal, judged_by_none, judged_by_some}
 use Rattle.joined.specs.Joined.{counts_fit}
-use Rattle.joined.specs.Formed.{fits_means, fits_test}
+use Rattle.joined.proofs.Formed.{fits_means, fits_test}
 use Rattle.joined_written.specs.Joins.{JoinsTexts}
 use Rattle.joined_written.specs.Results.{written_joins}
 use Rattle.joining.specs.declared.JoinAnswer.{JoinAnswer}

@@ -9,7 +9,7 @@ use Rattle.refusals.specs.declared.Verdict.{Verdict}
 use Rattle.refusals.specs.declared.Verdict.TheVariants.{Accepted, Refused}
 use Rattle.reader_record.specs.declared.Text.{Text}
 use Rattle.reader.specs.Reading.{read_text}
-use Rattle.reader_formed.specs.Formed.{read_formed}
+use Rattle.reader_formed.proofs.Formed.{read_formed}
 use Rattle.clocks.specs.declared.Judged.{Judged}
 use Rattle.clocks.specs.declared.Judged.TheVariants.{Clean, TooManyStates, NoMove, TwoEdges}
 use Rattle.clocks.specs.Meaning.{led, moves}
@@ -17,10 +17,10 @@ use Rattle.clocks.specs.States.{judgement}
 use Rattle.clocks.specs.Accepted as clocks
 use Rattle.clocks.specs.Agreement.{edge_gives_agrees, after_agrees}
 use Rattle.clocks.specs.Standing.{led_one}
-use Rattle.clocks.specs.Found.{two_edges_exactly, no_move_exactly, standing_one_move, by_an_edge}
+use Rattle.clocks.proofs.Found.{two_edges_exactly, no_move_exactly, standing_one_move, by_an_edge}
 use Rattle.clocks_read.specs.Reading.{refused, judged_reading, parsed_reading, read_outcome}
 use Rattle.clocks_read.specs.Laws.{read_accepted}
-use Rattle.implementation_check.specs.Codes.{last_token_code, tick_code, too_late, token_codes}
+use Rattle.implementation_check.proofs.Codes.{last_token_code, tick_code, too_late, token_codes}
 use Rattle.guarantees.specs.Parallel.{record_of, ParallelDemand}
 
 -- the judgement that a refusal by one of the codes 9 to 11 names

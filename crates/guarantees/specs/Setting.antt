@@ -21,7 +21,7 @@ use Rattle.clocks.specs.Contract.{signature, uncapped, system, capping}
 use Rattle.clocks_read.specs.Laws.{read_accepted}
 use Rattle.pairing.specs.Equal.{nothing_when_equal}
 use Rattle.two_texts.specs.Two.{text_of, tick_judged, too_long_in, refused_in, refused_pairing, or_else, texts_judged, channels_judged, two_judged, step_of, Compared, left_system, right_system}
-use Rattle.two_texts.specs.Laws.{named, compared, judged_by_none}
+use Rattle.two_texts.proofs.Laws.{named, compared, judged_by_none}
 use Rattle.search.specs.Outcome.{search_systems}
 use Rattle.tables.specs.Outcome.{check_systems, widest_systems}
 use Rattle.two_operations.specs.Outcome.{search_outcome, check_outcome, widest_outcome}

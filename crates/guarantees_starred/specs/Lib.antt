@@ -1,11 +1,1 @@
 pub mod Sentences
-pub mod Opened
-pub mod Posts
-pub mod Runs
-pub mod Tables
-pub mod Outcomes
-pub mod Safe
-pub mod Starred
-pub mod Met
-pub mod Implementations
-pub mod Joined

@@ -1,4 +1,2 @@
 pub mod Outcome
 pub mod Ready
-pub mod Laws
-pub mod Codes

@@ -13,7 +13,7 @@ use Rattle.reader_record.specs.declared.Label.TheVariants.{Input, Output}
 use Rattle.reader_record.specs.declared.Text.{Text}
 use Rattle.reader_record.specs.Record.{direction_of, edge, channel}
 use Rattle.reader_record.specs.Formed.{agrees, WellFormed}
-use Rattle.written.specs.Same.{label_direction, direction_after}
+use Rattle.written.proofs.Same.{label_direction, direction_after}
 
 -- the direction of a label is the one that its mark agrees with
 agreed : (o : Label) (d : Direction) → T (agrees o d) → label_direction o ≡ d

@@ -13,7 +13,7 @@ use Rattle.clocks.specs.States.{state_count}
 use Rattle.clocks.specs.Faults.{edge_gives}
 use Rattle.pairing.specs.Channels.{right_step}
 use Rattle.joined.specs.Joined.{joined_text, counts_fit}
-use Rattle.joined.specs.Examples.{opened}
+use Rattle.joined.proofs.Examples.{opened}
 use Rattle.written.specs.Spaced.{after_token, spaced_tokens, later_items, part_tokens, numbered_items}
 use Rattle.written.specs.Written.{called, sign_bytes, comparison_tokens, constraint_tokens, location_tokens, mark_bytes, label_tokens, assigned_clocks, assignment_tokens, assignments_tokens, edge_tokens, list_tokens, channel_list, clock_list, location_list, edge_list, text_tokens, written_with}
 use Rattle.written.specs.Underscores.{is_channel_name, clashes, underscores, underscores_of, written_text}

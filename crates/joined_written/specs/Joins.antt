@@ -3,7 +3,7 @@ use Rattle.std.specs.Prelude.{List, ℕ}
 use Rattle.reader_record.specs.declared.Text.{Text}
 use Rattle.clocks.specs.Accepted.{Accepted}
 use Rattle.pairing.specs.Channels.{EqualChannels, right_step}
-use Rattle.joined.specs.Conjunction.{ConjunctionOf}
+use Rattle.joined.proofs.Conjunction.{ConjunctionOf}
 
 -- the text z, whose record is x, joins the texts s and u, whose records l and r are accepted: x is accepted, z has
 -- equal channels with both, and x is the conjunction of l and r

@@ -11,11 +11,11 @@ use Rattle.reader_record.specs.Record.{no_assignment, written_once, assignment, 
 use Rattle.reader_record.specs.Formed.{WellFormed}
 use Rattle.clocks.specs.States.{is_input, input}
 use Rattle.clocks.specs.Judgement.{input_known}
-use Rattle.joined.specs.Alike.{AlikeConstraint, AlikeEdge, Alike}
-use Rattle.joined.specs.Lists.{below}
-use Rattle.joined.specs.Assigned.{once_cases}
-use Rattle.joined.specs.Inputs.{input_parts, input_is}
-use Rattle.written.specs.Same.{SameConstraint, SameText}
+use Rattle.joined.proofs.Alike.{AlikeConstraint, AlikeEdge, Alike}
+use Rattle.joined.proofs.Lists.{below}
+use Rattle.joined.proofs.Assigned.{once_cases}
+use Rattle.joined.proofs.Inputs.{input_parts, input_is}
+use Rattle.written.proofs.Same.{SameConstraint, SameText}
 use Rattle.joined_written.specs.Directions.{direction_read}
 
 alike_constraint : {g h : Constraint} → SameConstraint g h → AlikeConstraint g h

@@ -8,25 +8,25 @@ use Rattle.reader_record.specs.declared.Text.{Text}
 use Rattle.reader_record.specs.Formed.{WellFormed}
 use Rattle.reader.specs.Reading.{read_text}
 use Rattle.reader_formed.specs.Promise.{channel_name}
-use Rattle.reader_formed.specs.Formed.{read_formed}
+use Rattle.reader_formed.proofs.Formed.{read_formed}
 use Rattle.clocks.specs.States.{state_count, input}
 use Rattle.clocks.specs.Accepted.{Accepted}
 use Rattle.pairing.specs.Channels.{spelling, Shared, EqualChannels, right_step}
 use Rattle.pairing.specs.Equal.{read_named}
 use Rattle.joined.specs.Joined.{joined_text, counts_fit}
-use Rattle.joined.specs.Paired.{PairedSteps}
-use Rattle.joined.specs.Alike.{Alike}
-use Rattle.joined.specs.Formed.{text_once, text_formed}
-use Rattle.joined.specs.AlikeLaws.{alike_accepted}
-use Rattle.joined.specs.PairedLaws.{right_steps}
-use Rattle.joined.specs.Judged.{input_same}
-use Rattle.joined.specs.Results.{text_conjunction, text_accepted}
-use Rattle.written.specs.Good.{ChannelNames}
-use Rattle.written.specs.Readable.{formed_readable}
+use Rattle.joined.proofs.Paired.{PairedSteps}
+use Rattle.joined.proofs.Alike.{Alike}
+use Rattle.joined.proofs.Formed.{text_once, text_formed}
+use Rattle.joined.proofs.AlikeLaws.{alike_accepted}
+use Rattle.joined.proofs.PairedLaws.{right_steps}
+use Rattle.joined.proofs.Judged.{input_same}
+use Rattle.joined.proofs.Results.{text_conjunction, text_accepted}
+use Rattle.written.proofs.Good.{ChannelNames}
+use Rattle.written.proofs.Readable.{formed_readable}
 use Rattle.written.specs.Underscores.{underscores_of, written_text}
-use Rattle.written.specs.Same.{ReadBack}
-use Rattle.written.specs.Slots.{spells_spelling}
-use Rattle.written.specs.Whole.{written_text_read}
+use Rattle.written.proofs.Same.{ReadBack}
+use Rattle.written.proofs.Slots.{spells_spelling}
+use Rattle.written.proofs.Whole.{written_text_read}
 use Rattle.written_names.specs.Spelled.{channel_spellings}
 use Rattle.written_names.specs.Read.{spelling_at, channels_writable}
 use Rattle.joined_written.specs.Joins.{JoinsTexts}

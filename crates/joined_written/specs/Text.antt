@@ -11,7 +11,7 @@ use Rattle.reader_record.specs.declared.Assignment.{Assignment}
 use Rattle.reader_record.specs.declared.Edge.{Edge}
 use Rattle.reader_record.specs.declared.Text.{Text}
 use Rattle.reader_record.specs.Record.{no_assignment, comparison, edge, invariant_of}
-use Rattle.joined.specs.Alike.{AlikeConstraint, AlikeEdge, Alike}
+use Rattle.joined.proofs.Alike.{AlikeConstraint, AlikeEdge, Alike}
 use Rattle.written.specs.Spaced.{Tokens, part_tokens, numbered_items}
 use Rattle.written.specs.Written.{location_called, comparison_tokens, constraint_tokens, location_tokens, assigned_clocks, assignment_tokens, assignments_tokens, edge_tokens, list_tokens, location_list, edge_list, text_tokens, written_with}
 use Rattle.written.specs.Underscores.{underscores_of, written_text}

@@ -1,6 +1,2 @@
 pub mod Outcome
 pub mod Ready
-pub mod Laws
-pub mod Built
-pub mod Joined
-pub mod Judged

@@ -12,7 +12,7 @@ use Rattle.reader_record.specs.declared.Edge.{Edge}
 use Rattle.reader_record.specs.declared.Text.{Text}
 use Rattle.reader_record.specs.Record.{no_edge, edge, channel}
 use Rattle.joined.specs.Joined.{matching, joined_edge, paired_with, paired, edges_of}
-use Rattle.joined.specs.Formed.{pair_lt}
+use Rattle.joined.proofs.Formed.{pair_lt}
 use Rattle.joining_items.specs.Items.{NearEdge, EdgesJoinable, joined_by}
 use Rattle.joining_items.specs.Laws.{below_last}
 use Rattle.joining_edges.specs.declared.Edges.{Edges}

@@ -8,10 +8,10 @@ use Rattle.reader_record.specs.declared.Edge.{Edge}
 use Rattle.limits.specs.Limits.{clock_limit, comparison_limit}
 use Rattle.reader_record.specs.Record.{no_assignment, comparison}
 use Rattle.joined.specs.Joined.{shifted, both_constraints, both_assignments}
-use Rattle.joined.specs.Lists.{below}
-use Rattle.joined.specs.Assigned.{assignment_missing}
-use Rattle.joined.specs.Formed.{both_right}
-use Rattle.joined.specs.Alike.{AlikeConstraint}
+use Rattle.joined.proofs.Lists.{below}
+use Rattle.joined.proofs.Assigned.{assignment_missing}
+use Rattle.joined.proofs.Formed.{both_right}
+use Rattle.joined.proofs.Alike.{AlikeConstraint}
 use Rattle.joining_items.specs.Items.{Nearly}
 
 -- a constraint that is short enough is alike

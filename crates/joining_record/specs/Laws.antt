@@ -23,8 +23,8 @@ use Rattle.reader_record.specs.Record.{no_channel, direction_of, edge, invariant
 use Rattle.reader_record.specs.Formed.{WellFormed}
 use Rattle.clocks.specs.States.{is_input, input}
 use Rattle.joined.specs.Joined.{pair, both_constraints, has_channel, joined_edges, joined_channel, joined_location, joined_text, few, CountsFit, counts_fit}
-use Rattle.joined.specs.Alike.{AlikeConstraint, AlikeEdge, Alike}
-use Rattle.joined.specs.Formed.{invariant_at as joined-invariant, pair_lt, fits_means, fits_test}
+use Rattle.joined.proofs.Alike.{AlikeConstraint, AlikeEdge, Alike}
+use Rattle.joined.proofs.Formed.{invariant_at as joined-invariant, pair_lt, fits_means, fits_test}
 use Rattle.joining_items.specs.Items.{Nearly, NearEdge, Joinable}
 use Rattle.joining_items.specs.Laws.{nearly_alike, below_last}
 use Rattle.joining_edges.specs.declared.Edges.{Edges}

@@ -5,7 +5,7 @@ use Rattle.reader_record.specs.declared.Location.{Location}
 use Rattle.reader_record.specs.declared.Text.{Text}
 use Rattle.reader_record.specs.Record.{no_channel, no_location}
 use Rattle.joined.specs.Joined.{joined_text, counts_fit}
-use Rattle.joined.specs.Alike.{Alike}
+use Rattle.joined.proofs.Alike.{Alike}
 use Rattle.joining_edges.specs.Edges.{by_map}
 use Rattle.joining_record.specs.declared.Joining.{Joining}
 

@@ -11,7 +11,7 @@ use Rattle.reader_record.specs.declared.Text.{Text}
 use Rattle.reader_record.specs.Record.{edge, channel}
 use Rattle.reader_record.specs.Formed.{WellFormed}
 use Rattle.joined.specs.Joined.{matching, paired_with, paired, edges_of, joined_edges, joined_text}
-use Rattle.joined.specs.Lists.{Every, every_tab}
+use Rattle.joined.proofs.Lists.{Every, every_tab}
 use Rattle.joining_edges.specs.Edges.{by_map}
 
 -- f and g agree at the channel of an edge

@@ -1,4 +1,2 @@
 pub mod Returned
 pub mod Sizes
-pub mod EnoughLaws
-pub mod Enough

@@ -2,7 +2,7 @@
 use Rattle.std.specs.Prelude.{◌≡◌, cond, List, ℕ, zero, suc, ◌+◌, ◌-◌, ◌≤◌, ◌<◌, eqb}
 use Rattle.std.proofs.Common.{sym, ◌∙◌, not-suc-le-zero, arith, eq-eqb, ne_eqb}
 use Rattle.reader_record.specs.declared.Text.{Text}
-use Rattle.reader_formed.specs.Cases.{when_equal}
+use Rattle.reader_formed.proofs.Cases.{when_equal}
 use Rattle.pairing.specs.declared.Matched.TheVariants.{Equal}
 use Rattle.pairing.specs.Channels.{Channel, EqualChannels, unmatched, right_step, WellNamed}
 use Rattle.pairing.specs.Equal.{equal_when_nothing, step_there, step_injective}

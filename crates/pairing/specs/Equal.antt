@@ -7,8 +7,8 @@ use Rattle.reader_record.specs.declared.Text.{Text}
 use Rattle.refusals.specs.declared.Verdict.TheVariants.{Accepted}
 use Rattle.reader.specs.Reading.{read_text}
 use Rattle.reader_formed.specs.Promise.{Within, Unlike}
-use Rattle.reader_formed.specs.Formed.{read_names, read_differ}
-use Rattle.reader_formed.specs.Cases.{split, when_equal, never}
+use Rattle.reader_formed.proofs.Formed.{read_names, read_differ}
+use Rattle.reader_formed.proofs.Cases.{split, when_equal, never}
 use Rattle.clocks.specs.States.{input}
 use Rattle.pairing.specs.declared.Matched.{Matched}
 use Rattle.pairing.specs.declared.Matched.TheVariants.{Equal, Unmatched}

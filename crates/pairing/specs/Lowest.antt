@@ -4,7 +4,7 @@ use Rattle.std.proofs.Common.{sym, ◌∙◌}
 use Prim.Native.Nat.{ℕ, zero, suc, ◌+◌, ◌-◌, ◌≤◌, ◌<◌}
 use Rattle.std.proofs.Math.Numerals.{add-one}
 use native.Mathlib.Omega.{arith}
-use Rattle.reader_formed.specs.Cases.{split, when_equal, never}
+use Rattle.reader_formed.proofs.Cases.{split, when_equal, never}
 use Rattle.pairing.specs.Channels.{first_from, lowest}
 
 -- what is left to search from `at` on

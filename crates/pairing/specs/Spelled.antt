@@ -4,8 +4,8 @@ use Rattle.std.proofs.Common.{sym, ap, ◌∙◌, arith, length-take, length-dro
 use Rattle.reader_tokens.specs.Scan as scan
 use Rattle.reader_record.specs.declared.Name.{Name}
 use Rattle.reader_formed.specs.Promise.{Within}
-use Rattle.reader_formed.specs.Cases.{split, never}
-use Rattle.reader_formed.specs.Declared.{same_length}
+use Rattle.reader_formed.proofs.Cases.{split, never}
+use Rattle.reader_formed.proofs.Declared.{same_length}
 use Rattle.pairing.specs.Channels.{spelling, alike}
 
 agree_take : (m : ℕ) (x y : List ℕ) → scan.agree m x y ≡ true → take m x ≡ take m y

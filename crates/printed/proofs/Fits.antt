@@ -16,8 +16,8 @@ use Rattle.refusals.specs.declared.Refusal.{Refusal}
 use Rattle.refusals.specs.Refusals.{keep_too_short, queue_too_short, start_not_safe, run_too_short}
 use Rattle.systems.specs.Definitions.{Signature, tick}
 use Rattle.systems.specs.Finite.{FiniteSystem, safe, safe_states, pruned, search_run}
-use Rattle.systems.specs.Departure.{run, run_first, pruned_elim}
-use Rattle.systems.specs.Search.{search_result}
+use Rattle.systems.proofs.Departure.{run, run_first, pruned_elim}
+use Rattle.systems.proofs.Search.{search_result}
 use Rattle.bitmaps.specs.Packed.{bytes_for, packed}
 use Rattle.reader_record.specs.declared.Direction.{Direction}
 use Rattle.reader_record.specs.declared.Direction.TheVariants as direction
@@ -27,7 +27,7 @@ use Rattle.refusals.specs.declared.Verdict.TheVariants.{Accepted}
 use Rattle.clocks.specs.Contract.{signature}
 use Rattle.clocks_read.specs.Reading.{read_outcome}
 use Rattle.two_texts.specs.Two.{text_of, two_judged, left_system, right_system}
-use Rattle.two_texts.specs.Laws.{judged_none, compared, named, judged_by_none, judged_by_some}
+use Rattle.two_texts.proofs.Laws.{judged_none, compared, named, judged_by_none, judged_by_some}
 use Rattle.byte_slices.specs.Decimal.{ascii}
 use Rattle.search.specs.declared.SearchAnswer.{SearchAnswer}
 use Rattle.search.specs.declared.SearchAnswer.TheVariants as answer

@@ -22,14 +22,14 @@ use Rattle.clocks.specs.Contract.{system}
 use Rattle.clocks_read.specs.Reading.{read_outcome}
 use Rattle.clocks_read.specs.Laws.{read_accepted}
 use Rattle.two_texts.specs.Two.{two_judged, left_system, right_system}
-use Rattle.two_texts.specs.Laws.{judged_none, compared, judged_by_none, judged_by_some}
+use Rattle.two_texts.proofs.Laws.{judged_none, compared, judged_by_none, judged_by_some}
 use Rattle.tables_header.specs.Header.{table_bytes}
 use Rattle.tables_whole.specs.TableFile.{table_file}
 use Rattle.tables.specs.declared.WidestAnswer.{WidestAnswer}
 use Rattle.tables.specs.declared.WidestAnswer.TheVariants as answer
 use Rattle.tables.specs.Outcome.{Widened, widest_refused, widest_systems}
 use Rattle.two_operations.specs.Outcome.{widest_outcome}
-use Rattle.demands.specs.Files.{file_length}
+use Rattle.demands.proofs.Files.{file_length}
 use Rattle.byte_slices.specs.Laid.{Laid, laid}
 use Rattle.byte_slices.specs.Put.{front_laid}
 use Rattle.printed_lines.specs.Lines.{refusal_line}

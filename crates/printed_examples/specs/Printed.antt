@@ -9,9 +9,9 @@ use Rattle.clocks_read.specs.declared.Reading.{Reading}
 use Rattle.search.specs.Outcome.{Outcome}
 use Rattle.byte_slices.specs.Decimal.{ascii, decimal, digits, digit}
 use Rattle.guarantees_starred.specs.Sentences.{Room, widest_raster, ten_by_ten}
-use Rattle.guarantees_starred.specs.Tables.{file_size}
-use Rattle.guarantees_starred.specs.Starred.{starred_posts}
-use Rattle.guarantees_starred.specs.Posts.{rearm_known}
+use Rattle.guarantees_starred.proofs.Tables.{file_size}
+use Rattle.guarantees_starred.proofs.Starred.{starred_posts}
+use Rattle.guarantees_starred.proofs.Posts.{rearm_known}
 use Rattle.printed_lines.specs.Lines.{spaced, line, refusal_line, yes_line, passed_line, accepted_line, direction_mark, channel_line, step_line, step_lines, departure_lines}
 use Rattle.printed.specs.Prints.{zeros, entries, counted_bytes, widest_line, search_lines, megzhoi_prints, table_printed, widest_prints, check_line, recheck_prints, verdict_line, implementation_prints}
 use Rattle.printed.specs.Fits.{zeros_length}

@@ -16,7 +16,7 @@ use Rattle.byte_slices.specs.Laid.{Laid, laid}
 use Rattle.byte_slices.specs.Put.{front_laid}
 use Rattle.reader_record.specs.declared.Text.{Text}
 use Rattle.two_texts.specs.Two.{two_judged}
-use Rattle.two_texts.specs.Laws.{judged_by_none, judged_by_some}
+use Rattle.two_texts.proofs.Laws.{judged_by_none, judged_by_some}
 use Rattle.joining.specs.declared.JoinAnswer.{JoinAnswer}
 use Rattle.joining.specs.declared.JoinAnswer.TheVariants.{Written, Refused}
 use Rattle.joining.specs.Outcome as joining

@@ -1,5 +1,1 @@
 pub mod Answers
-pub mod Fits
-pub mod Program
-pub mod Implementation
-pub mod Joining

@@ -12,7 +12,7 @@ use Rattle.reader_parts.specs.Status.{take, ahead}
 use Rattle.reader_constraints.specs.declared.Amount.{Amount}
 use Rattle.reader_constraints.specs.declared.ComparisonRead.{ComparisonRead}
 use Rattle.reader_constraints.specs.Constraints.{constant, comparison_next, with_comparison, constraint_from}
-use Rattle.reader_constraints.specs.Facts.{constant_small}
+use Rattle.reader_constraints.proofs.Facts.{constant_small}
 use Rattle.limits.specs.Limits.{largest_constant}
 
 pub amount_small :

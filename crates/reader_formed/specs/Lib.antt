@@ -1,11 +1,1 @@
 pub mod Promise
-pub mod Cases
-pub mod Going
-pub mod Declared
-pub mod Slots
-pub mod Comparisons
-pub mod Edges
-pub mod State
-pub mod Lists
-pub mod Start
-pub mod Formed

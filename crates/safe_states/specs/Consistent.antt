@@ -16,8 +16,8 @@ use Rattle.clocks.specs.States.{state_count, start_state}
 use Rattle.clocks.specs.Safe.{safe_states}
 use Rattle.clocks.specs.Accepted.{Accepted}
 use Rattle.clocks.specs.Contract.{signature, system}
-use Rattle.clocks.specs.Encoded.{safe_states_same}
-use Rattle.clocks.specs.Results.{Meaning, text_implementable}
+use Rattle.clocks.proofs.Encoded.{safe_states_same}
+use Rattle.clocks.proofs.Results.{Meaning, text_implementable}
 use Rattle.refusals.specs.declared.Verdict.TheVariants as verdict
 use Rattle.clocks_read.specs.Reading.{read_outcome}
 use Rattle.clocks_read.specs.Laws.{read_accepted}

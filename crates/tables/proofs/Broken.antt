@@ -16,7 +16,7 @@ use Rattle.tables_check.specs.declared.Found.TheVariants.{Passed, NotAllowedAt, 
 use Rattle.tables_check.specs.Fault.{picked, table_from}
 use Rattle.tables_check.specs.Scan.{fault_at}
 use Rattle.tables_check.specs.Judged.{LowestFault}
-use Rattle.tables_check.specs.Exact.{scan_told}
+use Rattle.tables_check.proofs.Exact.{scan_told}
 use Rattle.tables.specs.Found.{InTable}
 use Rattle.tables_whole.specs.Answer.{answer_of, raster_answer}
 use Rattle.tables_whole.specs.declared.TableAnswer.{TableAnswer}

@@ -1,4 +1,3 @@
-pub mod Exact
 pub mod Fault
 pub mod Scan
 pub mod Judged

@@ -16,7 +16,7 @@ use Rattle.bitmaps.specs.Bits.{bit_at, num}
 use Rattle.bitmaps.specs.BitLaws.{num_le, less}
 use Rattle.bitmaps.specs.Packed.{bytes_for}
 use Rattle.tables_count.specs.Pairs.{high_ones, passing, Fewer, Among, Lost}
-use Rattle.tables_count.specs.PassingLaws.{passing_same, passing_split}
+use Rattle.tables_count.proofs.PassingLaws.{passing_same, passing_split}
 
 -- with the other bits taken off, the ones of the byte: every byte and every m, computed
 test : ℕ → Bool

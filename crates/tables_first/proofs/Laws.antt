@@ -20,7 +20,7 @@ use Rattle.move_tables.specs.MoveLaws.{decode_none, decode_some}
 use Rattle.tables_rows.specs.Raster.{part, set_at}
 use Rattle.tables_rows.specs.RasterLaws.{row_back, row_back_length, row_put, row_put_length, row_put_outside, row_put_here, row_put_else, row_put_more}
 use Rattle.tables_count.specs.Pairs.{passing, pairs_set}
-use Rattle.tables_count.specs.PassingLaws.{passing_none, passing_all, pairs_more, pairs_same}
+use Rattle.tables_count.proofs.PassingLaws.{passing_none, passing_all, pairs_more, pairs_same}
 use Rattle.tables_ranges.specs.Cut.{Cut, from_bit}
 use Rattle.tables_ranges.specs.CutLaws.{cut_all, cut_same}
 use Rattle.tables_runs.specs.Runs.{goes, landing, Within}

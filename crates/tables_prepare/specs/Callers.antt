@@ -3,7 +3,7 @@ use Rattle.std.specs.Prelude.{◌≡◌, Bool, List, ℕ, ◌≤◌, ◌<◌, le
 use Rattle.std.proofs.Common.{arith}
 use Rattle.systems.specs.Definitions.{Signature}
 use Rattle.systems.specs.Finite.{FiniteSystem}
-use Rattle.systems.specs.Sieve.{length_table}
+use Rattle.systems.proofs.Sieve.{length_table}
 use Rattle.bitmaps.specs.Packed.{bytes_for}
 use Rattle.bitmaps.specs.PackedLaws.{packed_self}
 use Rattle.move_tables.specs.declared.Sides.{Sides}

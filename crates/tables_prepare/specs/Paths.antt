@@ -7,7 +7,7 @@ use Rattle.systems.specs.Finite.{FiniteSystem, safe, safe_states, safe_test}
 use Rattle.bitmaps.specs.Bits.{bit_at}
 use Rattle.bitmaps.specs.Packed.{bytes_for, packed, Packed}
 use Rattle.bitmaps.specs.PackedLaws.{packed_bit, packed_self}
-use Rattle.systems.specs.Sieve.{length_table, length_stage}
+use Rattle.systems.proofs.Sieve.{length_table, length_stage}
 use Rattle.clocks_safe.specs.Settle.{SafeAnswer}
 use Rattle.tables_prune.specs.Prune.{Pruned}
 use Rattle.move_tables.specs.declared.Sides.{Sides}

@@ -11,7 +11,7 @@ use Rattle.systems.specs.Tests.{at, table}
 use Rattle.bitmaps.specs.Bits.{bit_at, num, byte_of}
 use Rattle.bitmaps.specs.BitLaws.{written_is, less}
 use Rattle.bitmaps.specs.Packed.{packed, bytes_for}
-use Rattle.systems.specs.Sieve.{length_table}
+use Rattle.systems.proofs.Sieve.{length_table}
 use Rattle.tables_rows.specs.Raster.{Raster, set_at, denoted, part, row}
 use Rattle.tables_rows.specs.RasterLaws.{part_length, part_at, row_length, row_at}
 use Rattle.tables_settle.specs.State.{PaddingClear}

@@ -10,11 +10,11 @@ use lib.Dec.{T}
 use lib.ListN.{length, get_or, get_or-eq_default}
 use Rattle.systems.specs.Bools.{stays_elim, lands_elim}
 use Rattle.systems.specs.Tests.{at, ones, lands, stage}
-use Rattle.systems.specs.Sieve.{Between, between_done, length_stage, same_table, ones_le}
+use Rattle.systems.proofs.Sieve.{Between, between_done, length_stage, same_table, ones_le}
 use Rattle.systems.specs.Definitions.{Signature}
 use Rattle.systems.specs.Finite.{FiniteSystem, pruned, pair_ok, cell}
-use Rattle.systems.specs.Departure.{pruned_elim}
-use Rattle.systems.specs.Refinement.{Moves, moves_rule, pair_complete, pair_rule}
+use Rattle.systems.proofs.Departure.{pruned_elim}
+use Rattle.systems.proofs.Refinement.{Moves, moves_rule, pair_complete, pair_rule}
 use Rattle.bitmaps.specs.BitLaws.{less}
 use Rattle.move_tables.specs.Moves.{Bounded, decode}
 use Rattle.move_tables.specs.Given.{Given}

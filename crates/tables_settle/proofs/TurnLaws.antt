@@ -14,10 +14,10 @@ use lib.ListN.{length, get_or, set}
 use lib.Seq.{get_or-set_same, get_or-set_other}
 use Rattle.systems.specs.Bools.{none_some, stays_same, lands_same}
 use Rattle.systems.specs.Tests.{at, lands, table}
-use Rattle.systems.specs.Sieve.{Between, at_table}
+use Rattle.systems.proofs.Sieve.{Between, at_table}
 use Rattle.systems.specs.Definitions.{Signature}
 use Rattle.systems.specs.Finite.{FiniteSystem}
-use Rattle.systems.specs.Refinement.{pair_rule}
+use Rattle.systems.proofs.Refinement.{pair_rule}
 use Rattle.limits.specs.Limits.{pair_limit}
 use Rattle.bitmaps.specs.Bits.{bit_at}
 use Rattle.bitmaps.specs.BitLaws.{less}
@@ -28,7 +28,7 @@ use Rattle.move_tables.specs.Given.{Given}
 use Rattle.tables_rows.specs.Raster.{set_at, denoted}
 use Rattle.tables_rows.specs.RasterLaws.{part_at, row_end, pairs_few}
 use Rattle.tables_count.specs.Pairs.{passing, pairs_set}
-use Rattle.tables_count.specs.PassingLaws.{passing_same, pairs_same}
+use Rattle.tables_count.proofs.PassingLaws.{passing_same, pairs_same}
 use Rattle.tables_runs.specs.Runs.{goes}
 use Rattle.tables_cut.specs.Rule.{ok_of, fine}
 use Rattle.tables_visit.specs.Visit.{Visited}

@@ -4,10 +4,10 @@ use Rattle.std.proofs.Common.{sym, subst, ap, ◌∙◌, ⊎_elim, arith, T_not}
 use Rattle.std.proofs.Math.Arith.{digits_lt, digits_div, digits_mod}
 use Rattle.systems.specs.Bools.{T_dec, stays_intro, lands_intro}
 use Rattle.systems.specs.Tests.{at, ones, stays, lands, stage}
-use Rattle.systems.specs.Sieve.{Rule, Between, stage_keeps, length_table}
+use Rattle.systems.proofs.Sieve.{Rule, Between, stage_keeps, length_table}
 use Rattle.systems.specs.Definitions.{Signature}
 use Rattle.systems.specs.Finite.{FiniteSystem, pruned, pair_ok, cell}
-use Rattle.systems.specs.Refinement.{Pair, Moves, rule_moves, pair_sound, pair_rule, pairs_elim}
+use Rattle.systems.proofs.Refinement.{Pair, Moves, rule_moves, pair_sound, pair_rule, pairs_elim}
 use Rattle.move_tables.specs.Moves.{decode, no_move}
 use Rattle.move_tables.specs.MoveLaws.{decode_none}
 use Rattle.move_tables.specs.Given.{Given}

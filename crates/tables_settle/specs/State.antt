@@ -1,10 +1,10 @@
 -- The removal by rows: the raster, when each row was last looked at and last changed, and how many pairs are left.
 use Rattle.std.specs.Prelude.{◌≡◌, ◌⊎◌, ◌≢◌, Bool, false, List, ℕ, ◌+◌, ◌*◌, ◌/◌, ◌≤◌, ◌<◌, T, length, get_or}
 use Rattle.systems.specs.Tests.{at, stage}
-use Rattle.systems.specs.Sieve.{Between}
+use Rattle.systems.proofs.Sieve.{Between}
 use Rattle.systems.specs.Definitions.{Signature}
 use Rattle.systems.specs.Finite.{FiniteSystem, pairs}
-use Rattle.systems.specs.Refinement.{pair_rule}
+use Rattle.systems.proofs.Refinement.{pair_rule}
 use Rattle.move_tables.specs.declared.Sides.{Sides}
 use Rattle.move_tables.specs.Moves.{no_move}
 use Rattle.move_tables.specs.Given.{Given}

@@ -14,7 +14,7 @@ use Rattle.bitmaps.specs.Packed.{bytes_for}
 use Rattle.tables_rows.specs.Raster.{part, set_at}
 use Rattle.tables_rows.specs.RasterLaws.{part_length, part_between, row_back, row_put, row_put_length, row_put_outside, row_put_here}
 use Rattle.tables_count.specs.Pairs.{passing, Fewer}
-use Rattle.tables_count.specs.PassingLaws.{passing_same, passing_all}
+use Rattle.tables_count.proofs.PassingLaws.{passing_same, passing_all}
 use Rattle.tables_ranges.specs.Cut.{Cut}
 use Rattle.tables_runs.specs.Runs.{Within}
 use Rattle.tables_runs.specs.RunsLaws.{within_cut}

@@ -13,11 +13,11 @@ use Rattle.tables_rows.specs.Given.{Systems}
 use Rattle.tables_rows.specs.Raster.{set_at, denoted, raster_of}
 use Rattle.tables_rows.specs.RasterLaws.{raster_rows, raster_bit}
 use Rattle.tables_count.specs.Pairs.{pairs_set}
-use Rattle.tables_count.specs.Ones.{pairs_ones, denoted_raster}
+use Rattle.tables_count.proofs.Ones.{pairs_ones, denoted_raster}
 use Rattle.tables_check.specs.Fault.{table_from}
 use Rattle.tables_check.specs.Scan.{fault_at}
 use Rattle.tables_check.specs.Judged.{pairs_judged}
-use Rattle.tables_check.specs.Exact.{judged_is, check_judged}
+use Rattle.tables_check.proofs.Exact.{judged_is, check_judged}
 use Rattle.tables_check.specs.declared.Found.{Found}
 use Rattle.tables_check.specs.declared.Found.TheVariants.{Passed, NotAllowedAt, BrokenAt}
 use Rattle.tables_whole.specs.Answer.{answer_of, raster_answer}

@@ -11,10 +11,10 @@ use lib.Dec.{T, T_not}
 use lib.ListN.{length, get_or, get_or-eq_default}
 use Rattle.systems.specs.Bools.{T_dec, stays_elim, stays_intro, lands_elim, lands_intro}
 use Rattle.systems.specs.Tests.{at, lands}
-use Rattle.systems.specs.Sieve.{Between, between_start, length_table}
+use Rattle.systems.proofs.Sieve.{Between, between_start, length_table}
 use Rattle.systems.specs.Definitions.{Signature}
 use Rattle.systems.specs.Finite.{FiniteSystem, pairs}
-use Rattle.systems.specs.Refinement.{pair_rule, pairs_elim, pairs_intro}
+use Rattle.systems.proofs.Refinement.{pair_rule, pairs_elim, pairs_intro}
 use Rattle.bitmaps.specs.Bits.{bit_at}
 use Rattle.bitmaps.specs.BitLaws.{less}
 use Rattle.bitmaps.specs.PackedLaws.{packed_bit}
@@ -24,7 +24,7 @@ use Rattle.move_tables.specs.MoveLaws.{decode_some, decode_inside}
 use Rattle.tables_rows.specs.Raster.{set_at, denoted}
 use Rattle.tables_rows.specs.Given.{Systems}
 use Rattle.tables_rows.specs.TableLaws.{table_at}
-use Rattle.tables_count.specs.PassingLaws.{pairs_le}
+use Rattle.tables_count.proofs.PassingLaws.{pairs_le}
 use Rattle.tables_runs.specs.Runs.{goes, landing}
 use Rattle.tables_cut.specs.Rule.{ok_of, fine}
 use Rattle.tables_first.specs.First.{First}

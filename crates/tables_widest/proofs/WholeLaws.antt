@@ -8,13 +8,13 @@ use lib.ListN.{length}
 use Rattle.systems.specs.Tests.{at, stage}
 use Rattle.systems.specs.Definitions.{Signature}
 use Rattle.systems.specs.Finite.{FiniteSystem, pairs, widest}
-use Rattle.systems.specs.Refinement.{pair_rule}
+use Rattle.systems.proofs.Refinement.{pair_rule}
 use Rattle.bitmaps.specs.Packed.{bytes_for}
 use Rattle.move_tables.specs.declared.Sides.{Sides}
 use Rattle.tables_rows.specs.Raster.{Raster, set_at, denoted}
 use Rattle.tables_rows.specs.RasterLaws.{raster_is, raster_bit}
 use Rattle.tables_rows.specs.Given.{Slices, Systems}
-use Rattle.tables_count.specs.Ones.{pairs_raster}
+use Rattle.tables_count.proofs.Ones.{pairs_raster}
 use Rattle.tables_first.specs.First.{First}
 use Rattle.tables_settle.specs.State.{Settled}
 use Rattle.tables_widest.specs.Whole.{WidestAnswers}

@@ -10,7 +10,7 @@ use Rattle.tables_prepare.specs.Prepared.{ReadyTwo}
 use Rattle.tables_prepare.specs.Callers.{held_ready}
 use Rattle.two_texts.specs.declared.TwoTexts.{TwoTexts}
 use Rattle.two_texts.specs.Two.{two_judged, Compared, left_system, right_system, judged_by}
-use Rattle.two_texts.specs.Laws.{compared, judged_by_none, judged_by_some}
+use Rattle.two_texts.proofs.Laws.{compared, judged_by_none, judged_by_some}
 use Rattle.two_texts.specs.Loaded.{Loaded, Loads, refusal_in}
 use Rattle.search.specs.declared.SearchAnswer.TheVariants as found
 use Rattle.search.specs.Outcome as search

@@ -2,7 +2,7 @@
 -- as it came (SPECIFICATION 13.5); where they find nothing, the outcome is that of the two systems.
 use Rattle.std.specs.Prelude.{List, ℕ}
 use Rattle.two_texts.specs.Two.{two_judged, left_system, right_system, judged_by}
-use Rattle.two_texts.specs.Laws.{compared}
+use Rattle.two_texts.proofs.Laws.{compared}
 use Rattle.search.specs.Outcome as search
 use Rattle.search.specs.Outcome.{Outcome, search_systems}
 use Rattle.tables.specs.Outcome.{Checked, check_refused, check_systems, Widened, widest_refused, widest_systems}

@@ -36,7 +36,7 @@ use Rattle.refusals.specs.declared.Verdict.TheVariants.{Accepted, Refused}
 use Rattle.move_tables.specs.declared.Sides.{Sides}
 use Rattle.two_texts.specs.declared.TwoTexts.{TwoTexts}
 use Rattle.two_texts.specs.Two.{text_of, tick_judged, too_long_in, refused_in, refused_pairing, or_else, texts_judged, channels_judged, two_judged, step_of}
-use Rattle.two_texts.specs.Laws.{Judged, judged_none, named}
+use Rattle.two_texts.proofs.Laws.{Judged, judged_none, named}
 use Rattle.two_texts.specs.Loaded.{refusal_in, Loads}
 use Rattle.two_texts.specs.Answers.{refused, sides_of, accepted as accepted-two, Sized, AcceptedMeasure, by_left, Paired, RightLoaded}
 use Rattle.two_texts.proofs.Tables.{table_fits, step_below, map_at, both_loaded}

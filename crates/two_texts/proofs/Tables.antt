@@ -10,19 +10,19 @@ use borrow.Author.Tests.{le-leb}
 use Rattle.systems.specs.Tests.{table}
 use Rattle.systems.specs.Renumbered.{renumbered}
 use Rattle.reader_record.specs.declared.Text.{Text}
-use Rattle.reader_formed.specs.Cases.{when_equal}
+use Rattle.reader_formed.proofs.Cases.{when_equal}
 use Rattle.bitmaps.specs.Bits.{tab_from}
 use Rattle.bitmaps.specs.BitLaws.{tab_at, length_tab, written_at, written_length}
 use Rattle.move_tables.specs.Moves.{Bounded, Encodes}
 use Rattle.clocks.specs.States.{state_count, next, input}
 use Rattle.clocks.specs.Contract.{signature, system}
 use Rattle.clocks.specs.Encoding.{Filled}
-use Rattle.clocks.specs.Encoded.{length_invariants, table_bounded, table_encoded, bits_bitmap, bits_start}
+use Rattle.clocks.proofs.Encoded.{length_invariants, table_bounded, table_encoded, bits_bitmap, bits_start}
 use Rattle.pairing.specs.Channels.{Channel}
 use Rattle.pairing.specs.Table as by_map
 use Rattle.pairing.specs.Equal.{tick_stays, step_there}
 use Rattle.two_texts.specs.Two.{text_of, step_of, Compared, right_system}
-use Rattle.two_texts.specs.Laws.{Judged, named, channels_equal}
+use Rattle.two_texts.proofs.Laws.{Judged, named, channels_equal}
 use Rattle.two_texts.specs.Loaded.{Loaded}
 use Rattle.two_texts.specs.Answers.{sides_of, accepted as accepted-two, size_by_left, by_left, RightFilled}
 use Rattle.limits.specs.Limits.{step_limit}

@@ -4,7 +4,7 @@ use Rattle.reader_tokens.specs.Scan.{bytes}
 use Rattle.reader_record.specs.declared.Text.{Text}
 use Rattle.written.specs.Spaced.{Tokens}
 use Rattle.written.specs.Written.{list_tokens}
-use Rattle.written.specs.Good.{Readable}
+use Rattle.written.proofs.Good.{Readable}
 use Rattle.writer_tokens.specs.Tokens.{PutsTokens, LeftToPut}
 use Rattle.written_names.specs.Inside.{NamesInside}
 use Rattle.writer_parts.specs.ItemLaws.{items_next, part_none, part_some}

@@ -3,7 +3,7 @@ use Rattle.std.specs.Prelude.{◌≡◌, refl, List, [], ◌∷◌, ◌++◌, �
 use Rattle.std.proofs.Common.{sym, ◌∙◌}
 use Rattle.byte_slices.specs.Put.{Puts, puts_then, puts_none, puts_same, puts_length}
 use Rattle.written.specs.Spaced.{space_byte, line_feed, Tokens, spaced_tokens}
-use Rattle.written.specs.Trailing.{tokens_before, before_append, spaced_last}
+use Rattle.written.proofs.Trailing.{tokens_before, before_append, spaced_last}
 use Rattle.writer_tokens.specs.Tokens.{PutsTokens, LeftToPut}
 
 -- one token: its bytes and a space

@@ -5,7 +5,7 @@ use Prim.Native.Char.{code}
 use Rattle.byte_slices.specs.Decimal.{decimal}
 use Rattle.byte_slices.specs.Put.{Puts}
 use Rattle.written.specs.Spaced.{Tokens}
-use Rattle.written.specs.Trailing.{tokens_before}
+use Rattle.written.proofs.Trailing.{tokens_before}
 
 -- the tokens, each with the space after it (SPECIFICATION 18.7), are put into `before` from the place `at` on
 pub record PutsTokens (before : List ℕ) (at : ℕ) (tokens : Tokens) (after : List ℕ) (place : ℕ) : Type 0 where

@@ -23,9 +23,9 @@ use Rattle.reader_lists.specs.State.{State, next_token, with_channel, with_clock
 use Rattle.reader_lists.specs.Lists.{Item, channel_item, clock_item, location_item, edge_item, one_item, limit, items_from, items}
 use Rattle.reader_lists.specs.Lists.Item.{Channel, Clock, Location, Edge}
 use Rattle.reader_formed.specs.Promise.{channel_name}
-use Rattle.reader_formed.specs.Cases.{split, either, stored}
-use Rattle.reader_formed.specs.Going.{Going, take_going, name_read}
-use Rattle.written.specs.Good.{IsName}
+use Rattle.reader_formed.proofs.Cases.{split, either, stored}
+use Rattle.reader_formed.proofs.Going.{Going, take_going, name_read}
+use Rattle.written.proofs.Good.{IsName}
 use Rattle.pairing.specs.Channels.{spelling}
 use Rattle.written_names.specs.Names.{name_is}
 

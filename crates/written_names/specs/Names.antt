@@ -13,10 +13,10 @@ use Rattle.reader_parts.specs.declared.Status.{Status}
 use Rattle.reader_parts.specs.declared.Status.TheVariants.{At, Refused}
 use Rattle.reader_parts.specs.declared.NameRead.{NameRead}
 use Rattle.reader_parts.specs.Status.{name_of, name_next}
-use Rattle.reader_formed.specs.Cases.{split, never}
-use Rattle.reader_formed.specs.Going.{Going}
-use Rattle.written.specs.Good.{IsName}
-use Rattle.written.specs.Scanned.{word_front}
+use Rattle.reader_formed.proofs.Cases.{split, never}
+use Rattle.reader_formed.proofs.Going.{Going}
+use Rattle.written.proofs.Good.{IsName}
+use Rattle.written.proofs.Scanned.{word_front}
 use Rattle.pairing.specs.Channels.{spelling}
 
 -- the bytes of a run pass its test, and are as many

@@ -19,13 +19,13 @@ use Rattle.refusals.specs.declared.Verdict.TheVariants.{Accepted, Refused}
 use Rattle.reader.specs.declared.Parsed.{Parsed}
 use Rattle.reader.specs.Reading.{start, list_part, channel_part, process_part, location_part, init_part, end_part, read_whole, refused, answer, read_text}
 use Rattle.reader_formed.specs.Promise.{channel_name, Within}
-use Rattle.reader_formed.specs.Cases.{split, either, never, when_equal}
-use Rattle.reader_formed.specs.Going.{Going, take_going}
-use Rattle.reader_formed.specs.Declared.{declared, used}
-use Rattle.reader_formed.specs.Lists.{list_keeps}
-use Rattle.reader_formed.specs.Formed.{read_names, read_differ}
-use Rattle.written.specs.Good.{ChannelNames}
-use Rattle.written.specs.Same.{Spells}
+use Rattle.reader_formed.proofs.Cases.{split, either, never, when_equal}
+use Rattle.reader_formed.proofs.Going.{Going, take_going}
+use Rattle.reader_formed.proofs.Declared.{declared, used}
+use Rattle.reader_formed.proofs.Lists.{list_keeps}
+use Rattle.reader_formed.proofs.Formed.{read_names, read_differ}
+use Rattle.written.proofs.Good.{ChannelNames}
+use Rattle.written.proofs.Same.{Spells}
 use Rattle.pairing.specs.Channels.{spelling, alike}
 use Rattle.pairing.specs.Spelled.{spelled_alike}
 use Rattle.bitmaps.specs.BitLaws.{tab_at}

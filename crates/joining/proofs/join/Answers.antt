@@ -1,7 +1,7 @@
 -- Two texts that are refused, and two that are joined by their records.
 use borrow.Author.Rules.{rules}
 use Rattle.joining.specs.Outcome.{refused}
-use Rattle.joining.specs.Judged.{judged_refused, judged_ready, judged_joined}
+use Rattle.joining.proofs.Judged.{judged_refused, judged_ready, judged_joined}
 use Rattle.joining.proofs.join.Goals as goal
 use Rattle.joining.proofs.join.Goals.{Start}
 

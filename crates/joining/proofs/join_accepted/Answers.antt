@@ -4,7 +4,7 @@ use borrow.Author.Tests.{not-true, not-false}
 use mathlib.Core.Path.{◌≡◌, ap}
 use Rattle.pairing.specs.declared.Pairing.{Pairing}
 use Rattle.pairing.specs.Channels.{pairing}
-use Rattle.joining.specs.Joined.{no_record, countable, writable, many_states, few_states}
+use Rattle.joining.proofs.Joined.{no_record, countable, writable, many_states, few_states}
 use Rattle.joining.proofs.join_accepted.Goals as goal
 
 pub returns-then-not-joining : goal.returns-then-not-joining

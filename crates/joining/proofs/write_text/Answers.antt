@@ -4,7 +4,7 @@ use mathlib.Core.Path.{sym}
 use native.Mathlib.Omega.{arith}
 use lib.Seq.{length-take-le}
 use Rattle.byte_slices.specs.Put.{puts_length}
-use Rattle.joining.specs.Laws.{text_put, text_over, text_short, text_copied}
+use Rattle.joining.proofs.Laws.{text_put, text_over, text_short, text_copied}
 use Rattle.joining.proofs.write_text.Goals as goal
 
 pub returns-then-n-gt-LARGEST_TEXT : goal.returns-then-n-gt-LARGEST_TEXT

@@ -2,7 +2,7 @@
 use mathlib.Core.Path.{sym, ◌∙◌}
 use native.Mathlib.Omega.{arith}
 use borrow.Author.Rules.{rules}
-use Rattle.joined.specs.Assigned.{assignment_left, assignment_behind, assignment_missing}
+use Rattle.joined.proofs.Assigned.{assignment_left, assignment_behind, assignment_missing}
 use Rattle.joining_items.proofs.assignment_at.Goals as goal
 
 pub returns-then-k-m : goal.returns-then-k-m

@@ -1,7 +1,7 @@
 -- comparison_at: below the left's count it is the left's comparison, from there on the right's on its new clock.
 use mathlib.Core.Path.{sym, ◌∙◌}
 use Prim.Native.Nat.{◌-◌}
-use Rattle.joined.specs.Formed.{both_left}
+use Rattle.joined.proofs.Formed.{both_left}
 use Rattle.joining_items.specs.Laws.{both_behind}
 use native.Mathlib.Omega.{arith}
 use borrow.Author.Rules.{rules}

@@ -5,7 +5,7 @@ use lib.ListN.{length, length-set, get_or}
 use Rattle.reader_record.specs.Record.{no_comparison, comparison}
 use Rattle.limits.specs.Limits.{comparison_limit}
 use Rattle.joined.specs.Joined.{both_constraints}
-use Rattle.joined.specs.Formed.{both_count}
+use Rattle.joined.proofs.Formed.{both_count}
 use Rattle.joining_items.specs.Laws.{kept_more}
 use borrow.Author.Rules.{rules}
 use native.Mathlib.Omega.{arith}

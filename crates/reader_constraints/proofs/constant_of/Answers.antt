@@ -6,7 +6,7 @@ use mathlib.Core.Path.{sym, ◌∙◌, ap}
 use Prim.Native.Nat.{◌≤◌, ◌<◌}
 use Rattle.reader_constraints.specs.Constraints.{in_ticks, constant_of}
 use Rattle.reader_tokens.specs.Clamped.{clamped_bound}
-use Rattle.reader_constraints.specs.Ticks.{unclamped_ticks, above_ticks}
+use Rattle.reader_constraints.proofs.Ticks.{unclamped_ticks, above_ticks}
 use Rattle.limits.specs.Limits.{largest_constant}
 use Rattle.reader_constraints.proofs.constant_of.Goals as goal
 

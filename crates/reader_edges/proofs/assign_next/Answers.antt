@@ -4,7 +4,7 @@ use native.Mathlib.Omega.{arith}
 use mathlib.Core.Path.{sym}
 use Rattle.reader_parts.specs.Status.{take}
 use Rattle.reader_constraints.specs.Constraints.{constant}
-use Rattle.reader_constraints.specs.Facts.{constant_small}
+use Rattle.reader_constraints.proofs.Facts.{constant_small}
 use Rattle.reader_edges.specs.Assigns.{assign_next}
 use Rattle.reader_edges.proofs.assign_next.Goals as goal
 

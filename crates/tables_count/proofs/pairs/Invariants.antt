@@ -10,7 +10,7 @@ use Rattle.bitmaps.specs.Packed.{bytes_for}
 use Rattle.tables_rows.specs.Raster.{raster_limit, set_at}
 use Rattle.tables_rows.specs.RasterLaws.{row_few, row_inside, pairs_few, part_length, part_between}
 use Rattle.tables_count.specs.Pairs.{passing, pairs_set}
-use Rattle.tables_count.specs.PassingLaws.{pairs_le, passing_le, pairs_more}
+use Rattle.tables_count.proofs.PassingLaws.{pairs_le, passing_le, pairs_more}
 use Rattle.tables_count.proofs.pairs.Given as goal
 
 abbrev pub invariant-loop-s : goal.invariant-loop-s

@@ -6,7 +6,7 @@ use Prim.Native.Nat.{ℕ, suc, ◌+◌, ◌-◌, ◌*◌, ◌/◌, ◌%◌, ◌�
 use lib.ListN.{get_or}
 use Rattle.bitmaps.specs.Bits.{bit_at}
 use Rattle.tables_count.specs.Pairs.{passing, high_ones}
-use Rattle.tables_count.specs.PassingLaws.{passing_le}
+use Rattle.tables_count.proofs.PassingLaws.{passing_le}
 use Rattle.tables_count.proofs.Laws.{passing_byte, high_le}
 use Rattle.tables_count.proofs.row_ones.Invariants.{invariant-loop-i, decreases-loop-i}
 use Rattle.tables_count.proofs.row_ones.Goals as goal

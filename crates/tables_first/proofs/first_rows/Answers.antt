@@ -8,7 +8,7 @@ use Rattle.bitmaps.specs.Bits.{bit_at}
 use Rattle.bitmaps.specs.Packed.{bytes_for}
 use Rattle.tables_rows.specs.Raster.{raster_limit, set_at}
 use Rattle.tables_rows.specs.RasterLaws.{row_few, row_inside, part_length, part_between, pairs_few, row_back, row_back_length}
-use Rattle.tables_count.specs.PassingLaws.{pairs_le, passing_le}
+use Rattle.tables_count.proofs.PassingLaws.{pairs_le, passing_le}
 use Rattle.tables_first.specs.First.{FirstRows}
 use Rattle.tables_first.proofs.Laws.{rows_none, rows_more}
 use Rattle.tables_first.proofs.first_rows.Invariants.{invariant-loop-s, decreases-loop-s}

@@ -1,0 +1,4 @@
+pub mod Assigned
+pub mod Found
+pub mod Results
+pub mod Encoded

@@ -1,0 +1,10 @@
+pub mod Theorems
+pub mod Same
+pub mod Kept
+pub mod Files
+pub mod Faults
+pub mod Searched
+pub mod Widened
+pub mod Answered
+pub mod Checked
+pub mod Long

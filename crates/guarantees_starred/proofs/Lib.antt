@@ -1,0 +1,10 @@
+pub mod Opened
+pub mod Posts
+pub mod Runs
+pub mod Tables
+pub mod Outcomes
+pub mod Safe
+pub mod Starred
+pub mod Met
+pub mod Implementations
+pub mod Joined

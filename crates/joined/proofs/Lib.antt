@@ -1,0 +1,17 @@
+pub mod Alike
+pub mod Paired
+pub mod Conjunction
+pub mod Lists
+pub mod Assigned
+pub mod Formed
+pub mod AlikeLaws
+pub mod PairedLaws
+pub mod Sums
+pub mod Both
+pub mod Together
+pub mod Moves
+pub mod Inputs
+pub mod Judged
+pub mod Bisimilar
+pub mod Results
+pub mod Examples

@@ -1,0 +1,4 @@
+pub mod Laws
+pub mod Built
+pub mod Joined
+pub mod Judged

@@ -1,0 +1,4 @@
+pub mod Fits
+pub mod Program
+pub mod Implementation
+pub mod Joining

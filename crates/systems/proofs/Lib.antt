@@ -1,0 +1,14 @@
+pub mod Theorems
+pub mod Examples
+pub mod Posts
+pub mod Sieve
+pub mod Safe
+pub mod Implementation
+pub mod Departure
+pub mod Refinement
+pub mod Search
+pub mod Capped
+pub mod Consequences
+pub mod Compute
+pub mod Bfs
+pub mod Queue
