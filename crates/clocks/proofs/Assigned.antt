@@ -11,10 +11,10 @@ use Rattle.reader_record.specs.Formed.{WellFormed}
 use Rattle.clocks.specs.declared.Config.{Config}
 use Rattle.clocks.specs.Meaning.{clock_value, holds, assigned, after}
 use Rattle.clocks.specs.States.{largest, ranges, cap, state, config}
-use Rattle.clocks.specs.Numbers.{ranges_positive, cap_small, config_state}
+use Rattle.clocks.proofs.Numbers.{ranges_positive, cap_small, config_state}
 use Rattle.clocks.specs.Faults.{edge_gives}
-use Rattle.clocks.specs.Agreement.{value_capped, value_within}
-use Rattle.clocks.specs.Standing.{gives_exactly}
+use Rattle.clocks.proofs.Agreement.{value_capped, value_within}
+use Rattle.clocks.proofs.Standing.{gives_exactly}
 
 -- a clock after an edge
 pub value_after : (e : Edge) (v : Config) (k : ℕ) → k < clock_limit

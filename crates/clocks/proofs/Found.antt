@@ -21,13 +21,13 @@ use Rattle.clocks.specs.declared.Judged.TheVariants.{Clean, TooManyStates, NoMov
 use Rattle.clocks.specs.Meaning.{invariant, after, one_if, edge_moves, ticked, tick_move, moves, stands}
 use Rattle.clocks.specs.States.{ranges, state, config, state_moves, state_invariant, state_count, input, fault, step_fault, state_fault, states_judged, judgement}
 use Rattle.clocks.specs.Faults.{Deterministic, edge_gives, GivenByEdges, WithoutMove, TwoWays, Faulty, NoneLower}
-use Rattle.clocks.specs.Edges.{edges_give, edge_moves_one, apart_two, none_nothing}
-use Rattle.clocks.specs.Judgement.{first_clean, clean_first, first_at, input_known, of_steps, not_holding, judged_iff, judged_found, no_move_means, two_edges_means, judgement_exactly, judgement_judged}
+use Rattle.clocks.proofs.Edges.{edges_give, edge_moves_one, apart_two, none_nothing}
+use Rattle.clocks.proofs.Judgement.{first_clean, clean_first, first_at, input_known, of_steps, not_holding, judged_iff, judged_found, no_move_means, two_edges_means, judgement_exactly, judgement_judged}
 use Rattle.clocks.specs.Capped.{capped, capped_moves}
 use Rattle.clocks.specs.Accepted.{Accepted}
-use Rattle.clocks.specs.Numbers.{ranges_positive, config_state}
-use Rattle.clocks.specs.Agreement.{moves_capped, invariant_agrees}
-use Rattle.clocks.specs.Standing.{gives_exactly, stands_location, stands_invariant, state_below}
+use Rattle.clocks.proofs.Numbers.{ranges_positive, config_state}
+use Rattle.clocks.proofs.Agreement.{moves_capped, invariant_agrees}
+use Rattle.clocks.proofs.Standing.{gives_exactly, stands_location, stands_invariant, state_below}
 
 -- the judgements differ
 not_no_move : (s c : ℕ) → NoMove s c ≡ Clean → ⊥

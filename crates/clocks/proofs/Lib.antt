@@ -1,3 +1,11 @@
+pub mod Also
+pub mod Numbers
+pub mod Edges
+pub mod Signs
+pub mod Agreement
+pub mod Judgement
+pub mod Standing
+pub mod Contract
 pub mod Assigned
 pub mod Found
 pub mod Results

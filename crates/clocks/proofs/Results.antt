@@ -9,7 +9,7 @@ use Rattle.systems.specs.Renumbered.{renumbered_system, renumbered, renumbered_c
 use Rattle.systems.proofs.Theorems.{safe_states_largest, implementation_iff, runs_iff, search_shortest, search_bounded, search_implementations, search_made, search_at_least, check_exactly, pair_exactly, step_exactly, widest_exactly, widest_start_exactly}
 use Rattle.reader_record.specs.declared.Text.{Text}
 use Rattle.clocks.specs.Accepted.{Accepted}
-use Rattle.clocks.specs.Contract.{signature, uncapped, system, capping}
+use Rattle.clocks.proofs.Contract.{signature, uncapped, system, capping}
 
 module _ (t : Text) (a : Accepted t) where
   -- the text with uncapped clocks, and those of its configurations whose state number is safe

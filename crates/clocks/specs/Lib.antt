@@ -5,11 +5,3 @@ pub mod Accepted
 pub mod Safe
 pub mod Capped
 pub mod Faults
-pub mod Also
-pub mod Numbers
-pub mod Edges
-pub mod Signs
-pub mod Agreement
-pub mod Judgement
-pub mod Standing
-pub mod Contract

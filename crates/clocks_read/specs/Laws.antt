@@ -14,7 +14,7 @@ use Rattle.clocks.specs.declared.Judged.TheVariants.{Clean, TooManyStates, NoMov
 use Rattle.clocks.specs.States.{state_count, too_many, judgement, invariants}
 use Rattle.clocks.specs.Encoding.{table_entry, table_size, judged_table, judged_holds}
 use Rattle.clocks.specs.Accepted as accepted
-use Rattle.clocks.specs.Judgement.{judgement_few}
+use Rattle.clocks.proofs.Judgement.{judgement_few}
 use Rattle.refusals.specs.declared.Verdict.TheVariants.{Accepted}
 use Rattle.clocks_read.specs.Reading.{refused, judged_reading, parsed_reading, read_outcome}
 use Rattle.clocks_read.specs.Loading.{Loading, judged_loading, parsed_loading, load_outcome}

@@ -8,7 +8,7 @@ use Rattle.refusals.specs.declared.Verdict.TheVariants as verdict
 use Rattle.clocks.specs.States.{state_count}
 use Rattle.clocks.specs.Encoding.{Filled}
 use Rattle.clocks.specs.Accepted.{Accepted}
-use Rattle.clocks.specs.Judgement.{judgement_few}
+use Rattle.clocks.proofs.Judgement.{judgement_few}
 use Rattle.clocks_table.specs.Room.{Room}
 use Rattle.clocks_table.specs.Judge.{judge_room}
 use Rattle.clocks_read.specs.declared.Reading.{Reading}

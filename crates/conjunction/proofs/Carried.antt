@@ -2,8 +2,8 @@
 use Rattle.std.specs.Prelude.{◌↔◌}
 use Rattle.systems.specs.Definitions.{Signature, System, Implementation, Satisfies}
 use Rattle.conjunction.specs.Definitions.{SameSignature}
-use Rattle.conjunction.specs.Parts.{into, from, own_into, own_from}
-use Rattle.conjunction.specs.Conjunction.{carried, carried_system}
+use Rattle.conjunction.proofs.Parts.{into, from, own_into, own_from}
+use Rattle.conjunction.proofs.Conjunction.{carried, carried_system}
 
 module _ {A B : Signature} (s : SameSignature A B) where
   pub satisfies_carried : (I : Implementation A) (M : System A)

@@ -6,8 +6,8 @@ use Rattle.systems.specs.Definitions.{tick, Signature, System, Implementation, S
 use Rattle.systems.specs.Finite.{FiniteSystem, Capping}
 use Rattle.systems.proofs.Capped.{back}
 use Rattle.conjunction.specs.Definitions.{Enabled}
-use Rattle.conjunction.specs.Parts.{both_next_elim, both_next_intro}
-use Rattle.conjunction.specs.Conjunction.{conjunction}
+use Rattle.conjunction.proofs.Parts.{both_next_elim, both_next_intro}
+use Rattle.conjunction.proofs.Conjunction.{conjunction}
 
 module _ {A : Signature} (M N : System A) where
   -- a move of the conjunction is one of each side, and two such moves are one of it

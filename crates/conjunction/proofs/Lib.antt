@@ -1,3 +1,5 @@
+pub mod Parts
+pub mod Conjunction
 pub mod Exactly
 pub mod Matched
 pub mod Carried

@@ -1,3 +1,1 @@
 pub mod Definitions
-pub mod Parts
-pub mod Conjunction

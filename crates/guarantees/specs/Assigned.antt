@@ -8,7 +8,7 @@ use Rattle.clocks.specs.declared.Moves.TheVariants.{One}
 use Rattle.clocks.specs.Meaning.{clock_value, after, stands}
 use Rattle.clocks.specs.Faults.{edge_gives}
 use Rattle.clocks.specs.Accepted.{Accepted}
-use Rattle.clocks.specs.Agreement.{written_within}
+use Rattle.clocks.proofs.Agreement.{written_within}
 use Rattle.clocks.proofs.Assigned.{value_set, value_kept, value_in_state, edge_gives_exactly}
 use Rattle.clocks.proofs.Found.{standing_one_move}
 use Rattle.guarantees.specs.Assignments.{AssignmentsDemand}

@@ -11,10 +11,10 @@ use Rattle.reader_record.specs.Formed as formed
 use Rattle.clocks.specs.declared.Config.{Config}
 use Rattle.clocks.specs.Meaning.{clock_value, compares, met, start_of}
 use Rattle.clocks.specs.States.{largest}
-use Rattle.clocks.specs.Signs.{at_most_exactly, at_least_exactly, equal_exactly, less_exactly, greater_exactly}
+use Rattle.clocks.proofs.Signs.{at_most_exactly, at_least_exactly, equal_exactly, less_exactly, greater_exactly}
 use Rattle.clocks.specs.Capped.{Within}
-use Rattle.clocks.specs.Agreement.{guard_within, invariant_within, compares_capped}
-use Rattle.clocks.specs.Standing.{stands_invariant, start_stands}
+use Rattle.clocks.proofs.Agreement.{guard_within, invariant_within, compares_capped}
+use Rattle.clocks.proofs.Standing.{stands_invariant, start_stands}
 use Rattle.guarantees.specs.Comparisons.{ComparisonOf, of_guard, of_invariant, ComparisonsDemand}
 
 -- what a sign says, of a comparison with that sign

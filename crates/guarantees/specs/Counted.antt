@@ -18,7 +18,7 @@ use Rattle.clocks.specs.States.{state_count, start_state}
 use Rattle.clocks.specs.Safe.{safe_states}
 use Rattle.clocks.proofs.Encoded.{safe_states_same}
 use Rattle.clocks.specs.Accepted.{Accepted}
-use Rattle.clocks.specs.Contract.{system}
+use Rattle.clocks.proofs.Contract.{system}
 use Rattle.refusals.specs.declared.Verdict.{Verdict}
 use Rattle.clocks_read.specs.Laws.{read_accepted}
 use Rattle.two_texts.specs.Two.{text_of}

@@ -15,7 +15,7 @@ use Rattle.reachable.specs.Check.{system_finding}
 use Rattle.reachable.specs.Meaning.{Says, OwnImplementation}
 use Rattle.reachable.proofs.Theorems.{finding_exactly, own_implementation, found_safe}
 use Rattle.clocks.specs.Accepted as clocks
-use Rattle.clocks.specs.Contract.{system}
+use Rattle.clocks.proofs.Contract.{system}
 use Rattle.clocks_read.specs.Reading.{read_outcome}
 use Rattle.clocks_read.specs.Laws.{read_accepted}
 use Rattle.two_texts.specs.Two.{text_of}

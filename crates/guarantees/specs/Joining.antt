@@ -6,10 +6,10 @@ use Rattle.limits.specs.Limits.{shortest_tick, largest_text, state_limit}
 use Rattle.refusals.specs.Refusals.{limit_exceeded, out_too_short}
 use Rattle.systems.specs.Definitions.{Implementation, Satisfies}
 use Rattle.conjunction.specs.Definitions.{SameSignature}
-use Rattle.conjunction.specs.Conjunction.{carried}
+use Rattle.conjunction.proofs.Conjunction.{carried}
 use Rattle.reader_record.specs.declared.Text.{Text}
 use Rattle.clocks.specs.States.{state_count}
-use Rattle.clocks.specs.Contract.{signature}
+use Rattle.clocks.proofs.Contract.{signature}
 use Rattle.pairing.specs.Channels as channels
 use Rattle.two_texts.specs.Two.{text_of, two_judged}
 use Rattle.joined.specs.Joined.{CountsFit}

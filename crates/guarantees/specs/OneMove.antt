@@ -15,8 +15,8 @@ use Rattle.clocks.specs.declared.Judged.TheVariants.{Clean, TooManyStates, NoMov
 use Rattle.clocks.specs.Meaning.{led, moves}
 use Rattle.clocks.specs.States.{judgement}
 use Rattle.clocks.specs.Accepted as clocks
-use Rattle.clocks.specs.Agreement.{edge_gives_agrees, after_agrees}
-use Rattle.clocks.specs.Standing.{led_one}
+use Rattle.clocks.proofs.Agreement.{edge_gives_agrees, after_agrees}
+use Rattle.clocks.proofs.Standing.{led_one}
 use Rattle.clocks.proofs.Found.{two_edges_exactly, no_move_exactly, standing_one_move, by_an_edge}
 use Rattle.clocks_read.specs.Reading.{refused, judged_reading, parsed_reading, read_outcome}
 use Rattle.clocks_read.specs.Laws.{read_accepted}

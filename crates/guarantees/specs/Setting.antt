@@ -17,7 +17,7 @@ use Rattle.systems.specs.Finite.{FiniteSystem, Capping}
 use Rattle.systems.specs.Renumbered.{renumbered_system, renumbered, renumbered_capping}
 use Rattle.clocks.specs.Accepted.{Accepted}
 use Rattle.clocks.specs.States.{state_count}
-use Rattle.clocks.specs.Contract.{signature, uncapped, system, capping}
+use Rattle.clocks.proofs.Contract.{signature, uncapped, system, capping}
 use Rattle.clocks_read.specs.Laws.{read_accepted}
 use Rattle.pairing.specs.Equal.{nothing_when_equal}
 use Rattle.two_texts.specs.Two.{text_of, tick_judged, too_long_in, refused_in, refused_pairing, or_else, texts_judged, channels_judged, two_judged, step_of, Compared, left_system, right_system}

@@ -7,7 +7,7 @@ use Rattle.refusals.specs.declared.Verdict.TheVariants as verdict
 use Rattle.systems.specs.Definitions.{System}
 use Rattle.systems.specs.Renumbered.{renumbered_system}
 use Rattle.clocks.specs.States.{ranges, state}
-use Rattle.clocks.specs.Contract.{signature, uncapped}
+use Rattle.clocks.proofs.Contract.{signature, uncapped}
 use Rattle.clocks_read.specs.Reading.{read_outcome}
 use Rattle.clocks_read.specs.Laws.{read_accepted}
 use Rattle.pairing.specs.Channels as channels

@@ -14,7 +14,7 @@ use Rattle.reader_examples.specs.Records.{twice_record, woken_twice_record}
 use Rattle.reader_examples.specs.Read.{twice_read, woken_twice_read}
 use Rattle.clocks.specs.Meaning.{clock_value, after, moves, led, start_of}
 use Rattle.clocks.specs.Faults.{edge_gives, TwoWays, NoneLower}
-use Rattle.clocks.specs.Standing.{start_stands}
+use Rattle.clocks.proofs.Standing.{start_stands}
 use Rattle.clocks_read.specs.declared.Reading.{Reading}
 use Rattle.clocks_read.specs.Laws.{read_accepted}
 use Rattle.two_texts.specs.Two.{text_of}

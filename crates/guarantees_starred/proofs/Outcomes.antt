@@ -15,7 +15,7 @@ use Rattle.systems.specs.Finite.{FiniteSystem, safe, safe_states, search_run, wi
 use Rattle.systems.specs.Renumbered.{renumbered}
 use Rattle.clocks.specs.States.{state_count, start_state}
 use Rattle.clocks.specs.Accepted.{Accepted}
-use Rattle.clocks.specs.Contract.{system}
+use Rattle.clocks.proofs.Contract.{system}
 use Rattle.bitmaps.specs.Packed.{bytes_for, packed}
 use Rattle.clocks_read.specs.declared.Reading.{Reading}
 use Rattle.pairing.specs.Channels.{unmatched}

@@ -13,7 +13,7 @@ use Rattle.reader_examples.specs.Read.{post_read, rearm_read, woken_read, overri
 use Rattle.clocks.specs.declared.Judged.TheVariants.{Clean}
 use Rattle.clocks.specs.Accepted.{Accepted}
 use Rattle.clocks.specs.States.{state_count, start_state, judgement}
-use Rattle.clocks.specs.Contract.{system}
+use Rattle.clocks.proofs.Contract.{system}
 use Rattle.clocks_read.specs.declared.Reading.{Reading}
 use Rattle.clocks_read.specs.Reading.{judged_reading, parsed_reading, read_outcome}
 use Rattle.guarantees_starred.proofs.Opened.{opened}

@@ -9,7 +9,7 @@ use Rattle.reader_record.specs.declared.Text.{Text}
 use Rattle.reader_examples.specs.Texts.{post, rearm, woken, overridden, early, strict, hush, idle, twice}
 use Rattle.reader_examples.specs.Records.{post_record, rearm_record, woken_record, overridden_record, early_record, strict_record, hush_record, idle_record, twice_record}
 use Rattle.clocks.specs.Accepted.{Accepted}
-use Rattle.clocks.specs.Contract.{signature, system}
+use Rattle.clocks.proofs.Contract.{signature, system}
 use Rattle.pairing.specs.Channels.{unmatched, right_step}
 use Rattle.pairing.specs.declared.Matched.TheVariants.{Equal}
 use Rattle.guarantees_starred.proofs.Opened.{opened_states, opened_pairing, opened}

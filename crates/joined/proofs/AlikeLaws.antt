@@ -19,8 +19,8 @@ use Rattle.clocks.specs.Meaning.{met, holds, invariant, assigned, after, one_if,
 use Rattle.clocks.specs.States.{most, constant_for, largest_in, largest_at, largest, values, ranges, state_count, config, state_moves, state_invariant, too_many, judgement}
 use Rattle.clocks.specs.Accepted.{Accepted}
 use Rattle.clocks.specs.Faults.{Deterministic}
-use Rattle.clocks.specs.Judgement.{judged_iff, judgement_judged, judgement_few}
-use Rattle.clocks.specs.Standing.{config_below}
+use Rattle.clocks.proofs.Judgement.{judged_iff, judgement_judged, judgement_few}
+use Rattle.clocks.proofs.Standing.{config_below}
 use Rattle.joined.proofs.Alike.{AlikeConstraint, AlikeEdge, Alike}
 
 pub same_constraint : (g : Constraint) → AlikeConstraint g g

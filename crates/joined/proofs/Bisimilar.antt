@@ -8,8 +8,8 @@ use Rattle.systems.specs.Bools.{T_true, guard_elim}
 use Rattle.systems.specs.Definitions.{System, Implementation, Satisfies}
 use Rattle.systems.specs.Renumbered.{renumbered_system, renumbered_capping}
 use Rattle.conjunction.specs.Definitions.{Enabled, Bisimulation, SameSignature}
-use Rattle.conjunction.specs.Parts.{flipped}
-use Rattle.conjunction.specs.Conjunction.{conjunction, carried, carried_system}
+use Rattle.conjunction.proofs.Parts.{flipped}
+use Rattle.conjunction.proofs.Conjunction.{conjunction, carried, carried_system}
 use Rattle.conjunction.proofs.Exactly.{conjunction_elim, conjunction_intro, conjunction_exactly, capped_enabled}
 use Rattle.conjunction.proofs.Matched.{satisfies_bisimilar, along}
 use Rattle.conjunction.proofs.Carried.{satisfies_carried}
@@ -20,8 +20,8 @@ use Rattle.clocks.specs.declared.Moves.TheVariants.{One}
 use Rattle.clocks.specs.Meaning.{moves, start_of, led, stands}
 use Rattle.clocks.specs.States.{input}
 use Rattle.clocks.specs.Accepted.{Accepted}
-use Rattle.clocks.specs.Standing.{led_one, stands_location, moves_stand, moves_known, start_stands}
-use Rattle.clocks.specs.Contract.{signature, uncapped, system, capping}
+use Rattle.clocks.proofs.Standing.{led_one, stands_location, moves_stand, moves_known, start_stands}
+use Rattle.clocks.proofs.Contract.{signature, uncapped, system, capping}
 use Rattle.joined.specs.Joined.{joined_text, counts_fit}
 use Rattle.joined.proofs.Formed.{pair_lt, text_formed}
 use Rattle.joined.proofs.Paired.{PairedSteps}

@@ -9,7 +9,7 @@ use Rattle.clocks.specs.declared.Config.{Config}
 use Rattle.clocks.specs.declared.Moves.{Moves}
 use Rattle.clocks.specs.declared.Moves.TheVariants.{Nothing, One, Two}
 use Rattle.clocks.specs.Meaning.{one_if, also}
-use Rattle.clocks.specs.Also.{equal_dec, also_same, also_two, also_nothing}
+use Rattle.clocks.proofs.Also.{equal_dec, also_same, also_two, also_nothing}
 use Rattle.joined.proofs.Lists.{Every}
 use Rattle.joined.proofs.Sums.{sum}
 

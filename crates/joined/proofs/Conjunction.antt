@@ -4,12 +4,12 @@ use Rattle.std.specs.Prelude.{◌↔◌, ℕ}
 use Rattle.systems.specs.Definitions.{System, Implementation, Satisfies}
 use Rattle.systems.specs.Renumbered.{renumbered_system}
 use Rattle.conjunction.specs.Definitions.{Bisimulation, SameSignature}
-use Rattle.conjunction.specs.Parts.{flipped}
-use Rattle.conjunction.specs.Conjunction.{conjunction, carried, carried_system}
+use Rattle.conjunction.proofs.Parts.{flipped}
+use Rattle.conjunction.proofs.Conjunction.{conjunction, carried, carried_system}
 use Rattle.reader_record.specs.declared.Text.{Text}
 use Rattle.reader_record.specs.Formed.{WellFormed}
 use Rattle.clocks.specs.Accepted.{Accepted}
-use Rattle.clocks.specs.Contract.{signature, uncapped}
+use Rattle.clocks.proofs.Contract.{signature, uncapped}
 
 -- the right text with the left's step numbers (SPECIFICATION 9.2)
 abbrev pub Right : (f : ℕ → ℕ) (l r : Text) → WellFormed r → System (signature l)

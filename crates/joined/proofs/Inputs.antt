@@ -7,7 +7,7 @@ use Rattle.reader_record.specs.declared.Direction.TheVariants.{Unused}
 use Rattle.reader_record.specs.declared.Text.{Text}
 use Rattle.reader_record.specs.Record.{direction_of}
 use Rattle.clocks.specs.States.{is_input, input}
-use Rattle.clocks.specs.Judgement.{input_known}
+use Rattle.clocks.proofs.Judgement.{input_known}
 use Rattle.joined.specs.Joined.{joined_edges, has_channel, joined_text}
 use Rattle.joined.proofs.Formed.{direction_at}
 

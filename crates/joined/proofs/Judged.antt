@@ -14,10 +14,10 @@ use Rattle.clocks.specs.Meaning.{clock_value, invariant, edge_moves, moves, star
 use Rattle.clocks.specs.States.{ranges, state_count, config, state_moves, state_invariant, input, too_many, judgement}
 use Rattle.clocks.specs.Faults.{Deterministic}
 use Rattle.clocks.specs.Accepted.{Accepted}
-use Rattle.clocks.specs.Judgement.{judged_iff, input_known}
-use Rattle.clocks.specs.Edges.{edge_moves_one}
+use Rattle.clocks.proofs.Judgement.{judged_iff, input_known}
+use Rattle.clocks.proofs.Edges.{edge_moves_one}
 use Rattle.clocks.proofs.Found.{standing_never_two, standing_input}
-use Rattle.clocks.specs.Standing.{start_stands, stands_location, stands_invariant, stands_intro, config_below}
+use Rattle.clocks.proofs.Standing.{start_stands, stands_location, stands_invariant, stands_intro, config_below}
 use Rattle.joined.specs.Joined.{pair, joined_edges, has_channel, joined_text, counts_fit}
 use Rattle.joined.proofs.Formed.{fits_means, label_used, left_part, right_part, text_formed}
 use Rattle.joined.proofs.Inputs.{input_exactly}

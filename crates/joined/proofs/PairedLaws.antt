@@ -3,7 +3,7 @@ use Rattle.std.proofs.Common.{sym, subst}
 use Rattle.std.specs.Prelude.{List, ℕ, T}
 use Rattle.reader_record.specs.declared.Text.{Text}
 use Rattle.clocks.specs.States.{input}
-use Rattle.clocks.specs.Judgement.{input_known}
+use Rattle.clocks.proofs.Judgement.{input_known}
 use Rattle.pairing.specs.Channels.{Channel, WellNamed, EqualChannels, right_step}
 use Rattle.pairing.specs.Equal.{tick_stays, step_there, step_input}
 use Rattle.joined.proofs.Paired.{PairedSteps}

@@ -12,7 +12,7 @@ use Rattle.clocks.specs.declared.Config.{Config}
 use Rattle.clocks.specs.declared.Moves.{Moves}
 use Rattle.clocks.specs.declared.Moves.TheVariants.{Nothing}
 use Rattle.clocks.specs.Meaning.{also, edge_move, edge_moves}
-use Rattle.clocks.specs.Also.{also_nothing, also_assoc}
+use Rattle.clocks.proofs.Also.{also_nothing, also_assoc}
 use Rattle.joined.specs.Joined.{matching, joined_edge, paired_with, paired, edges_of, joined_text}
 use Rattle.joined.proofs.Lists.{tab_items}
 

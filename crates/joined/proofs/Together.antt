@@ -20,7 +20,7 @@ use Rattle.clocks.specs.declared.Config.{Config}
 use Rattle.clocks.specs.Meaning.{clock_value, compares, met, holds, invariant, assigned, after, ticked, start_of}
 use Rattle.joined.specs.Joined.{pair, shifted, both_constraints, joined_edge, joined_text}
 use Rattle.clocks.proofs.Assigned.{value_after}
-use Rattle.clocks.specs.Also.{equal_parts}
+use Rattle.clocks.proofs.Also.{equal_parts}
 use Rattle.joined.proofs.Lists.{below}
 use Rattle.joined.proofs.Assigned.{once_assigned, assignment_left, assignment_right, assignment_missing}
 use Rattle.joined.proofs.Formed.{both_count, both_left, both_right, both_each, pair_lt, invariant_at}

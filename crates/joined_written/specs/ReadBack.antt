@@ -10,7 +10,7 @@ use Rattle.reader_record.specs.declared.Text.{Text}
 use Rattle.reader_record.specs.Record.{no_assignment, written_once, assignment, direction_of, edge}
 use Rattle.reader_record.specs.Formed.{WellFormed}
 use Rattle.clocks.specs.States.{is_input, input}
-use Rattle.clocks.specs.Judgement.{input_known}
+use Rattle.clocks.proofs.Judgement.{input_known}
 use Rattle.joined.proofs.Alike.{AlikeConstraint, AlikeEdge, Alike}
 use Rattle.joined.proofs.Lists.{below}
 use Rattle.joined.proofs.Assigned.{once_cases}

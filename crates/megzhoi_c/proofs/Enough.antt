@@ -13,8 +13,8 @@ use Rattle.refusals.specs.declared.Verdict.TheVariants as verdict
 use Rattle.systems.specs.Renumbered.{renumbered}
 use Rattle.bitmaps.specs.Packed.{bytes_for}
 use Rattle.clocks.specs.States.{state_count}
-use Rattle.clocks.specs.Judgement.{judgement_few}
-use Rattle.clocks.specs.Contract.{system}
+use Rattle.clocks.proofs.Judgement.{judgement_few}
+use Rattle.clocks.proofs.Contract.{system}
 use Rattle.clocks_read.specs.Reading.{read_outcome}
 use Rattle.clocks_read.specs.Laws.{read_accepted}
 use Rattle.safe_states.specs.Outcome.{safe_outcome, answered}

@@ -24,7 +24,7 @@ use Rattle.reader_record.specs.declared.Direction.TheVariants as direction
 use Rattle.reader_record.specs.declared.Channel.{Channel}
 use Rattle.reader_record.specs.Record.{no_channel}
 use Rattle.refusals.specs.declared.Verdict.TheVariants.{Accepted}
-use Rattle.clocks.specs.Contract.{signature}
+use Rattle.clocks.proofs.Contract.{signature}
 use Rattle.clocks_read.specs.Reading.{read_outcome}
 use Rattle.two_texts.specs.Two.{text_of, two_judged, left_system, right_system}
 use Rattle.two_texts.proofs.Laws.{judged_none, compared, named, judged_by_none, judged_by_some}

@@ -18,7 +18,7 @@ use Rattle.systems.specs.Tests.{ones}
 use Rattle.systems.specs.Finite.{FiniteSystem, safe, safe_states, widest, cell}
 use Rattle.systems.specs.Renumbered.{renumbered}
 use Rattle.bitmaps.specs.Packed.{bytes_for, packed}
-use Rattle.clocks.specs.Contract.{system}
+use Rattle.clocks.proofs.Contract.{system}
 use Rattle.clocks_read.specs.Reading.{read_outcome}
 use Rattle.clocks_read.specs.Laws.{read_accepted}
 use Rattle.two_texts.specs.Two.{two_judged, left_system, right_system}

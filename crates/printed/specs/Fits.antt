@@ -11,7 +11,7 @@ use Rattle.reader.specs.Reading.{read_text}
 use Rattle.clocks.specs.declared.Judged.{Judged}
 use Rattle.clocks.specs.declared.Judged.TheVariants.{Clean, TooManyStates, NoMove, TwoEdges}
 use Rattle.clocks.specs.States.{judgement}
-use Rattle.clocks.specs.Judgement.{judgement_few}
+use Rattle.clocks.proofs.Judgement.{judgement_few}
 use Rattle.clocks_read.specs.Reading.{refused, judged_reading, parsed_reading, read_outcome}
 use Rattle.tables_header.specs.Header.{header, header_bytes, table_bytes, table_limit}
 use Rattle.byte_slices.specs.DecimalLaws.{decimal_within}

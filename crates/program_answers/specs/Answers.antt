@@ -10,7 +10,7 @@ use Rattle.refusals.specs.declared.Verdict.TheVariants as verdict
 use Rattle.systems.specs.Definitions.{Implementation, Satisfies, Makes, Allows}
 use Rattle.reachable.specs.declared.Finding.TheVariants.{OutputBesideTick, NeitherPossible}
 use Rattle.reachable.specs.Meaning.{IsImplementation, Says, OwnImplementation}
-use Rattle.clocks.specs.Contract.{signature}
+use Rattle.clocks.proofs.Contract.{signature}
 use Rattle.clocks_read.specs.Reading.{read_outcome}
 use Rattle.two_texts.specs.Two.{text_of, two_judged}
 use Rattle.tables.specs.declared.WidestAnswer.TheVariants.{Made}

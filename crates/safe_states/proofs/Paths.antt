@@ -25,8 +25,8 @@ use Rattle.clocks_walk.specs.Carried.{FirstOf}
 use Rattle.clocks_walk.specs.Start.{start_fits, start_first}
 use Rattle.clocks_table.specs.Room.{Room}
 use Rattle.clocks.specs.Safe.{safe_states}
-use Rattle.clocks.specs.Judgement.{judgement_few}
-use Rattle.clocks.specs.Contract.{system}
+use Rattle.clocks.proofs.Judgement.{judgement_few}
+use Rattle.clocks.proofs.Contract.{system}
 use Rattle.clocks.proofs.Encoded.{table_bounded, table_encoded, bits_bitmap, bits_start, safe_states_same, length_invariants, length_safe}
 use Rattle.clocks_safe.specs.Settle.{SafeAnswer}
 use Rattle.refusals.specs.declared.Verdict.TheVariants as verdict

@@ -15,7 +15,7 @@ use Rattle.bitmaps.specs.Packed.{bytes_for}
 use Rattle.clocks.specs.States.{state_count, start_state}
 use Rattle.clocks.specs.Safe.{safe_states}
 use Rattle.clocks.specs.Accepted.{Accepted}
-use Rattle.clocks.specs.Contract.{signature, system}
+use Rattle.clocks.proofs.Contract.{signature, system}
 use Rattle.clocks.proofs.Encoded.{safe_states_same}
 use Rattle.clocks.proofs.Results.{Meaning, text_implementable}
 use Rattle.refusals.specs.declared.Verdict.TheVariants as verdict

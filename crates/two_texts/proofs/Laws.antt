@@ -6,8 +6,8 @@ use Rattle.std.proofs.Math.Option.{Option, none, some}
 use Rattle.std.proofs.Math.Dec.{T}
 use Rattle.refusals.specs.declared.Refusal.{Refusal}
 use Rattle.systems.specs.Bools.{none_some}
-use Rattle.clocks.specs.Judgement.{input_known}
-use Rattle.clocks.specs.Contract.{signature}
+use Rattle.clocks.proofs.Judgement.{input_known}
+use Rattle.clocks.proofs.Contract.{signature}
 use Rattle.refusals.specs.declared.Verdict.{Verdict}
 use Rattle.refusals.specs.declared.Verdict.TheVariants as verdict
 use Rattle.clocks_read.specs.Reading.{read_outcome}

@@ -18,7 +18,7 @@ use Rattle.clocks.specs.Encoding.{Filled, table_entry, table_size}
 use Rattle.clocks_table.specs.Room.{Room}
 use Rattle.clocks.specs.States.{state_count, start_state, input}
 use Rattle.clocks.specs.Accepted as accepted
-use Rattle.clocks.specs.Judgement.{judgement_few}
+use Rattle.clocks.proofs.Judgement.{judgement_few}
 use Rattle.clocks_states.specs.Parts.{Counted}
 use Rattle.clocks_read.specs.declared.Measured.{Measured}
 use Rattle.clocks_read.specs.declared.Reading.{Reading}

@@ -15,7 +15,7 @@ use Rattle.bitmaps.specs.Bits.{tab_from}
 use Rattle.bitmaps.specs.BitLaws.{tab_at, length_tab, written_at, written_length}
 use Rattle.move_tables.specs.Moves.{Bounded, Encodes}
 use Rattle.clocks.specs.States.{state_count, next, input}
-use Rattle.clocks.specs.Contract.{signature, system}
+use Rattle.clocks.proofs.Contract.{signature, system}
 use Rattle.clocks.specs.Encoding.{Filled}
 use Rattle.clocks.proofs.Encoded.{length_invariants, table_bounded, table_encoded, bits_bitmap, bits_start}
 use Rattle.pairing.specs.Channels.{Channel}

@@ -9,7 +9,7 @@ use Rattle.systems.specs.Definitions.{Input}
 use Rattle.systems.specs.Finite.{FiniteSystem}
 use Rattle.systems.specs.Renumbered.{renumbered}
 use Rattle.clocks.specs.Accepted.{Accepted}
-use Rattle.clocks.specs.Contract.{signature, system}
+use Rattle.clocks.proofs.Contract.{signature, system}
 use Rattle.refusals.specs.declared.Verdict.{Verdict}
 use Rattle.refusals.specs.declared.Verdict.TheVariants as verdict
 use Rattle.clocks_read.specs.Reading.{read_outcome}

@@ -2,7 +2,7 @@
 -- that says the same. Definitions only; the proofs in them are laws of Parts.antt.
 use Rattle.systems.specs.Definitions.{Signature, System, Implementation}
 use Rattle.conjunction.specs.Definitions.{both_next, both_hold, SameSignature}
-use Rattle.conjunction.specs.Parts.{both_next_elim, both_hold_iff, known, from, own_into, own_from}
+use Rattle.conjunction.proofs.Parts.{both_next_elim, both_hold_iff, known, from, own_into, own_from}
 
 -- pairs of states, from the pair of starts; a step is possible where both sides make it
 abbrev pub conjunction : {A : Signature} → System A → System A → System A
