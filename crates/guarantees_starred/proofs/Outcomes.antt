@@ -34,7 +34,7 @@ use Rattle.tables_whole.specs.TableFile.{table_file}
 use Rattle.tables.specs.declared.WidestAnswer.TheVariants as made
 use Rattle.tables.specs.Outcome.{Checked, check_refused, scanned, check_systems, Widened, widest_refused, widest_systems}
 use Rattle.guarantees.specs.Texts.{AcceptedText, EqualChannels}
-use Rattle.guarantees.specs.Setting.{both, search_is, check_is, widest_is}
+use Rattle.guarantees.proofs.Setting.{both, search_is, check_is, widest_is}
 use Rattle.guarantees_starred.specs.Sentences.{Room, Searches}
 use Rattle.guarantees_starred.proofs.Posts.{Known}
 use Rattle.guarantees_starred.proofs.Runs.{Pair, left_of, right_of}

@@ -12,7 +12,7 @@ use Rattle.joining.specs.declared.JoinAnswer.{JoinAnswer}
 use Rattle.joining.specs.declared.JoinAnswer.TheVariants.{Written, Refused}
 use Rattle.joining.specs.Outcome.{Outcome, joined_record, joined_bytes, join_outcome}
 use Rattle.guarantees.specs.Joining.{Within, Joins}
-use Rattle.guarantees.specs.Guarantees.{join_judged, joining_exactly}
+use Rattle.guarantees.proofs.Guarantees.{join_judged, joining_exactly}
 use Rattle.printed.specs.Prints.{program_tick, zeros}
 use Rattle.printed.specs.Fits.{zeros_length}
 use Rattle.printed_lines.specs.Lines.{refusal_line}

@@ -26,7 +26,7 @@ use Rattle.demands.proofs.Long.{no_refusal}
 use Rattle.demands.specs.Demands.{SearchDemand}
 use Rattle.demands.specs.Answers.{SearchAnswers, WidestAnswers}
 use Rattle.guarantees.specs.Texts.{AcceptedText, EqualChannels, states, meaning, number, right_meaning, right_number}
-use Rattle.guarantees.specs.Guarantees.{safe_states_exist, texts_judged, search_judged, demand_1_search, demand_1_widest, demand_2_widest, demand_3}
+use Rattle.guarantees.proofs.Guarantees.{safe_states_exist, texts_judged, search_judged, demand_1_search, demand_1_widest, demand_2_widest, demand_3}
 use Rattle.byte_slices.specs.Decimal.{ascii}
 use Rattle.printed_lines.specs.Lines.{line, step_lines, departure_lines}
 use Rattle.printed.specs.Prints.{program_tick, zeros, entries, counted_bytes, widest_line, search_lines, megzhoi_prints}

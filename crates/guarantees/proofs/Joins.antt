@@ -26,7 +26,7 @@ use Rattle.joining.specs.declared.JoinAnswer.{JoinAnswer}
 use Rattle.joining.specs.declared.JoinAnswer.TheVariants.{Written, Refused}
 use Rattle.joining.specs.Outcome.{Outcome, refused, within_limits, laid_text, record_outcome, joined_record, joined_bytes, join_outcome}
 use Rattle.guarantees.specs.Texts.{AcceptedText}
-use Rattle.guarantees.specs.Allowed.{two_codes}
+use Rattle.guarantees.proofs.Allowed.{two_codes}
 use Rattle.guarantees.specs.Joining.{Within, Joins, Joinable, JoinDemand}
 
 -- the test of the limits is what Within says

@@ -33,19 +33,19 @@ use Rattle.demands.specs.Answers.{SearchAnswers, CheckAnswers, WidestAnswers}
 use Rattle.guarantees.specs.Texts.{AcceptedText, states, meaning, number, right_meaning, right_number, EqualChannels, safe_refusal}
 use Rattle.guarantees.specs.Demands.{SafeDemand}
 use Rattle.guarantees.specs.Comparisons.{ComparisonsDemand}
-use Rattle.guarantees.specs.Compared.{comparisons_promised}
+use Rattle.guarantees.proofs.Compared.{comparisons_promised}
 use Rattle.guarantees.specs.Implementations.{ImplementationDemand}
-use Rattle.guarantees.specs.Implemented.{implementation_promised}
+use Rattle.guarantees.proofs.Implemented.{implementation_promised}
 use Rattle.guarantees.specs.Lengths.{TicksDemand, LengthDemand}
-use Rattle.guarantees.specs.Allowed.{ticks_promised, length_promised}
+use Rattle.guarantees.proofs.Allowed.{ticks_promised, length_promised}
 use Rattle.guarantees.specs.Parallel.{ParallelDemand}
-use Rattle.guarantees.specs.OneMove.{parallel_promised}
+use Rattle.guarantees.proofs.OneMove.{parallel_promised}
 use Rattle.guarantees.specs.Assignments.{AssignmentsDemand}
-use Rattle.guarantees.specs.Assigned.{assignments_promised}
+use Rattle.guarantees.proofs.Assigned.{assignments_promised}
 use Rattle.guarantees.specs.Joining.{JoinDemand}
-use Rattle.guarantees.specs.Joins.{join_promised}
-use Rattle.guarantees.specs.Counted as counted
-use Rattle.guarantees.specs.Setting.{nothing_found, one_capping, left_capping, right_capping, by_texts, form_sizes, search_is, check_is, widest_is}
+use Rattle.guarantees.proofs.Joins.{join_promised}
+use Rattle.guarantees.proofs.Counted as counted
+use Rattle.guarantees.proofs.Setting.{nothing_found, one_capping, left_capping, right_capping, by_texts, form_sizes, search_is, check_is, widest_is}
 
 -- How many ticks a constant comes to: the nearest whole number, an exact half upward, and itself at tick length 1, so
 -- that what holds at every tick length holds of texts in ticks (SPECIFICATION 4.7, 17.9).

@@ -50,7 +50,7 @@ use Rattle.joining.specs.Outcome as joining
 use Rattle.joining.specs.Outcome.{within_limits, laid_text, record_outcome, joined_record, joined_bytes, join_outcome}
 use Rattle.demands.specs.Words.{Without, search_refusal, check_refusal, widest_refusal}
 use Rattle.guarantees.specs.Texts.{safe_refusal, join_refusal}
-use Rattle.guarantees.specs.Setting.{tick_is_allowed}
+use Rattle.guarantees.proofs.Setting.{tick_is_allowed}
 use Rattle.guarantees.specs.Lengths.{TicksDemand, LengthRefused, LengthPassed, LengthDemand}
 
 pub ticks_promised : TicksDemand
