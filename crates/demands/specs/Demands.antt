@@ -1,5 +1,5 @@
 -- What demands 2 and 3 (SPECIFICATION 17.2, 17.3) ask of the outcomes of search, check and widest table, for two
--- systems M, the left, and N, the right, of one signature. Definitions only: the theorems are in Theorems.antt.
+-- systems M, the left, and N, the right, of one signature. Definitions only: the theorems are in proofs/Theorems.antt.
 use Rattle.std.specs.Prelude.{◌≡◌, ◌↔◌, Bool, false, List, ℕ, ◌*◌, ◌≤◌, ◌<◌, T, length, take, drop}
 use Rattle.systems.specs.Tests.{ones}
 use Rattle.systems.specs.Definitions.{Signature, System, Implementation, Satisfies, LargestSafeSet, Makes, Allows, NoDeparture, ShortestDeparture, Refines}

@@ -1,4 +1,4 @@
--- Tick lengths are as Lengths.antt asks: 24 is judged first, and no later judgement gives it.
+-- Tick lengths are as specs/Lengths.antt asks: 24 is judged first, and no later judgement gives it.
 use Rattle.std.specs.Prelude.{◌≡◌, Bool, not, ◌||◌, List, eqb, length, drop}
 use Rattle.std.proofs.Math.Path.{refl, ap}
 use Rattle.std.proofs.Common.{sym, subst, ◌∙◌, arith}

@@ -1,11 +1,11 @@
 -- THE GUARANTEES, to be read first. The demands (SPECIFICATION 17.1 to 17.3) as theorems about the operations' own
--- outcomes (read-outcome, safe-outcome, search-outcome, check-outcome, widest-outcome, implementation-outcome,
--- join-outcome), which the contracts of the operations equate with what the code answers and leaves in the lent slices.
--- The words are defined in Texts.antt and, for systems, in crate systems, Definitions.antt, in crate reachable,
+-- outcomes (read_outcome, safe_outcome, search_outcome, check_outcome, widest_outcome, implementation_outcome,
+-- join_outcome), which the contracts of the operations equate with what the code answers and leaves in the lent slices.
+-- The words are defined in specs/Texts.antt and, for systems, in crate systems, Definitions.antt, in crate reachable,
 -- Meaning.antt, and in crate demands, Words.antt; what each demand asks, clause by clause, is a record or a type of cases
--- in crate demands, Demands.antt and Answers.antt, and in Demands.antt, Implementations.antt, Lengths.antt, Parallel.antt,
--- Assignments.antt and Joining.antt here. The other files of this crate are laws: the operations on two texts are instances of those on
--- two systems.
+-- in crate demands, Demands.antt and Answers.antt, and in specs/ here, Demands.antt, Implementations.antt, Lengths.antt,
+-- Parallel.antt, Assignments.antt and Joining.antt. The other files of proofs/ are laws: the operations on two texts are
+-- instances of those on two systems.
 use Rattle.std.specs.Prelude.{◌≡◌, ◌↔◌, List, ℕ}
 use Rattle.std.proofs.Common.{subst}
 use Rattle.std.proofs.Math.Option.{none, some}

@@ -1,4 +1,4 @@
--- Joining two texts is as Joining.antt asks.
+-- Joining two texts is as specs/Joining.antt asks.
 use Rattle.std.specs.Prelude.{◌≡◌, Bool, true, false, ◌&&◌, cond, List, ◌++◌, ℕ, ◌≤◌, ◌<◌, T, leb, ltb, take, drop}
 use Rattle.std.proofs.Math.Path.{refl, sym, ap, subst}
 use Rattle.std.proofs.Common.{◌∙◌, arith, leb→le, le→leb, ltb-true, ltb-false}

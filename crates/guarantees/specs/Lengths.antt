@@ -1,6 +1,6 @@
 -- What is asked of tick lengths (SPECIFICATION 4.7, 13.3, 13.4, 17.9): how constants come to ticks, and that an
 -- operation gives 24 exactly where the tick length is not allowed, and then leaves everything lent as it came.
--- Definitions only: the theorems are in Guarantees.antt.
+-- Definitions only: the theorems are in proofs/Guarantees.antt.
 use Rattle.std.specs.Prelude.{◌≡◌, List, ℕ, ◌+◌, ◌*◌, ◌≤◌, ◌<◌}
 use Rattle.limits.specs.Limits.{TickLength, shortest_tick}
 use Rattle.refusals.specs.Refusals.{tick_out_of_range}

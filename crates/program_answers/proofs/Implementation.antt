@@ -1,4 +1,4 @@
--- What program implementation's line means: for any file, what it prints is one of the answers of Answers.antt
+-- What program implementation's line means: for any file, what it prints is one of the answers of specs/Answers.antt
 -- (SPECIFICATION 17.8). A theorem from the guarantees.
 use Rattle.std.specs.Prelude.{◌≡◌, refl, List, ℕ}
 use Rattle.std.proofs.Common.{ap}

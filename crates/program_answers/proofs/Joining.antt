@@ -1,5 +1,5 @@
--- What program join prints: for any two files it is one of the answers of Answers.antt (SPECIFICATION 17.10). A theorem
--- from the guarantees.
+-- What program join prints: for any two files it is one of the answers of specs/Answers.antt (SPECIFICATION 17.10). A
+-- theorem from the guarantees.
 use Rattle.std.proofs.Math.Path.{◌≡◌, refl, ap}
 use Rattle.std.proofs.Common.{sym, subst, ◌∙◌, arith}
 use Rattle.std.proofs.Math.Option.{Option, none, some}

@@ -1,4 +1,4 @@
--- What program megzhoi's lines mean: for any two files, what it prints is one of the answers of Answers.antt
+-- What program megzhoi's lines mean: for any two files, what it prints is one of the answers of specs/Answers.antt
 -- (SPECIFICATION 17.5). A theorem from the demands.
 use Rattle.std.specs.Prelude.{◌≡◌, ◌⊎◌, length}
 use Rattle.std.proofs.Math.Path.{refl, ap, subst}
