@@ -17,7 +17,7 @@ use Rattle.two_texts.specs.Two.{text_of, two_judged}
 use Rattle.two_texts.proofs.Laws.{judged_none, channels_equal, judged_by_some}
 use Rattle.safe_states.specs.Outcome.{safe_outcome}
 use Rattle.implementation_check.specs.Outcome.{implementation_outcome}
-use Rattle.search.specs.declared.SearchAnswer.TheVariants as search-answer
+use Rattle.search.specs.declared.SearchAnswer.TheVariants as search_answer
 use Rattle.search.specs.Outcome as search
 use Rattle.two_operations.specs.Outcome.{search_outcome, check_outcome, widest_outcome}
 use Rattle.joining.specs.declared.JoinAnswer.TheVariants as joined
@@ -110,7 +110,7 @@ module _ (period : ℕ) where
   pub search_judged : (left right keep : List ℕ) (back line : ℕ) (run : List ℕ) (r : Refusal)
       → two_judged period left right ≡ some r
       → search_outcome period left right keep back line run
-      ≡ record { answer = search-answer.Refused r; keep = keep; run = run }
+      ≡ record { answer = search_answer.Refused r; keep = keep; run = run }
   unfolding search_outcome
   search_judged left right keep back line run r e = judged_by_some (two_judged period left right) _ _ r e
 
