@@ -4,7 +4,8 @@
 # make implementation  says whether a draft is an implementation: YES or a refusal (DRAFT=)
 # make join       joins two contracts and writes them as one text to JOINED (LEFT=, RIGHT=)
 # make picture    shows the widest table as a picture (needs Netpbm)
-# make test       the gate: proves everything from nothing, tries every must-fail edit, runs the test programs
+# make test       the gate: proves every crate, tries every must-fail edit, runs the programs; what a run passed on
+#                 this machine before, and what has not changed since, is not proved again
 # make definitions  holds docs/ against the files (needs python3)
 # make programs   runs the five programs on some hundred pairs of files (needs python3)
 # make cases      writes the stored cases of the test programs anew (needs python3)
@@ -68,7 +69,8 @@ cases:
 
 library: $(LIBRARY)
 
-$(LIBRARY): crates.txt $(shell find crates -name '*.rt' -o -name '*.antt')
+# rt keeps copies of sources in each crate's out/; they are no prerequisites.
+$(LIBRARY): crates.txt $(shell find crates -name out -prune -o \( -name '*.rt' -o -name '*.antt' \) -print)
 	@scripts/prove megzhoi_c staticlib
 
 # Kept aside, it is the older build for a later library.

@@ -21,7 +21,7 @@
    megzhoi_table_bytes and megzhoi_queue_entries make of these the lengths of keep, of a table, and of back and of
    line. run needs as many entries as the departure has steps, which are at most left states * right states
    (SPECIFICATION 17.3), so megzhoi_queue_entries is enough for it too. That slices of these lengths are never
-   refused as too short is proved (crates/megzhoi_c/specs/Enough.antt). A joined text is a text, so MEGZHOI_TEXT_LIMIT
+   refused as too short is proved (crates/megzhoi_c/proofs/Enough.antt). A joined text is a text, so MEGZHOI_TEXT_LIMIT
    bytes of out are enough for each.
 
    What nothing checks. The caller sees to it that

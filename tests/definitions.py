@@ -1,12 +1,13 @@
 #!/usr/bin/env python3
 """Shows that no definition a reader must believe rests on one that docs/PROMISES.md does not list, and that what is cited is there.
 
-A definition is what a proof can look into: `unfoldable`, `abbrev`, a record or a data type. A plain `pub name : type` is
-opaque: only its type is seen, which the prover has checked, so it is a law. For every listed file this holds:
+A definition is what a proof can look into: `unfoldable`, `abbrev`, a record or a data type with its constructors. A plain
+`pub name : type` is opaque: only its type is seen, which the prover has checked, so it is a law. A listed file is one of a
+crate's specs/, or of its proofs/ where a definition has proofs in it. For every listed file this holds:
 - it is there, and has no public law of its own;
-- what it takes from an unlisted file of the project is a law there;
+- what it takes from an unlisted file of the project, by a `use` or by its whole path, is a law there;
 - the structs and enums it speaks of stand in src/, where the reader finds them.
-And every must-fail edit stands in docs/PROMISES.md, every edit that it names is there, and the text that an edit replaces
+And every must-fail edit stands in docs/PROMISES.md, every edit that it names is there, and each text that an edit replaces
 stands once in its file; every clause that a file cites, as
 SPECIFICATION with its number, stands in docs/SPECIFICATION.md; and no file names a paper that is not in the repository.
 Run it at the repository's root; the exit status is 0 when all of it holds.
@@ -15,7 +16,9 @@ import os
 import re
 import sys
 
-USE = re.compile(r"^(?:ghost )?use Rattle·(\w+?)(?:·specs)?\.specs(?:\.specs)?\.(\w+)(?:\.\{([^}]*)\}| as ([\w-]+));?$", re.M)
+NAME = r"[^\s(){}\[\],;:.`]+"  # a name of antt, as `next`, `next'` or `Lex≤`
+USE = re.compile(rf"^\s*(?:pub )?use Rattle\.(\w+)\.(specs|proofs)\.([\w.]+?)(?:\.\{{([^}}]*)\}}| as ({NAME}))$", re.M)
+WHOLE = re.compile(rf"Rattle\.(\w+)\.(specs|proofs)\.([\w.]+)\.({NAME})")  # a name by its whole path, outside a `use`
 GAP = r"(?: |\s*\n\s*(?://[/!]?|--|#|\*)?\s*)"  # a space, or a line's end inside a comment
 CLAUSE = r"\d+(?:\.\d+)?"
 CITED = re.compile(rf"SPECIFICATION{GAP}({CLAUSE}(?:(?:,|{GAP}and|{GAP}to|,{GAP}and){GAP}{CLAUSE})*)")
@@ -27,24 +30,39 @@ def listed():
     text = open("docs/PROMISES.md", encoding="utf-8").read()
     part = text.split("## What a reader must believe", 1)[1].split("\n## ", 1)[0]
     files = []
-    for crate, several, one in re.findall(r"`(\w+)/specs/(?:\{([\w, ]+)\}|(\w+))`", part):
+    for crate, where, several, one in re.findall(r"`(\w+)/(specs|proofs)/(?:\{([\w, ]+)\}|(\w+))`", part):
         for name in several.split(",") if several else [one]:
-            files.append((crate, name.strip()))
+            files.append((crate, where, name.strip()))
     return files
 
 
-def path(crate, file):
-    return f"crates/{crate}/specs/{file}.antt"
+def path(crate, where, file):
+    return f"crates/{crate}/{where}/{file.replace('.', '/')}.antt"
 
 
-def source(crate, file):
-    return open(path(crate, file), encoding="utf-8").read()
+def source(crate, where, file):
+    return open(path(crate, where, file), encoding="utf-8").read()
 
 
 def definitions(text):
     """The names that a proof can look into."""
-    names = set(re.findall(r"^\s*(?:unfoldable |abbrev |pub )*(?:unfoldable|abbrev) (?:pub )?([^\s:]+) :", text, re.M))
+    names = set(re.findall(r"^\s*(?:unfoldable |abbrev |pub )*(?:unfoldable|abbrev) (?:pub )?([^\s:({]+)\s*[:({]", text, re.M))
     names |= set(re.findall(r"^\s*(?:pub )?(?:record|data) ([^\s:({]+)", text, re.M))
+    return names | constructors(text)
+
+
+def constructors(text):
+    """The constructors of the data types."""
+    names, data = set(), None
+    for line in text.split("\n"):
+        indent = len(line) - len(line.lstrip())
+        if data is not None and line.strip() and indent <= data:
+            data = None
+        begun = re.match(r"\s*(?:pub )?([^\s:({]+) :", line)
+        if data is not None and begun:
+            names.add(begun.group(1))
+        if re.match(r"\s*(?:pub )?data ", line):
+            data = indent
     return names
 
 
@@ -57,25 +75,43 @@ def laws(text):
             record = None
         if re.match(r"\s*(?:pub )?(?:record|data) ", line):
             record = indent
-        law = re.match(r"\s*pub ([^\s:({]+) :", line)
+        law = re.match(r"\s*pub ([^\s:({]+)\s*[:({]", line)
         if law and record is None:
             found.append(law.group(1))
     return found
 
 
-def rests_on(crate, file, believed):
-    """What the file takes from unlisted files and can look into."""
-    text = source(crate, file)
-    wrong = []
-    for other, where, names, alias in USE.findall(text):
-        if (other, where) in believed or where == "declared" or not os.path.exists(path(other, where)):
-            continue
-        inside = definitions(source(other, where))
+def taken(text):
+    """What a file takes of the project's crates: (crate, specs or proofs, file, the names), a `use` or a whole path each."""
+    found = []
+    for crate, where, file, names, alias in USE.findall(text):
         if alias:
-            used = set(re.findall(r"(?<![\w.-])" + re.escape(alias) + r"\.([\w·′-]+)", text))
+            used = set(re.findall(rf"(?<![\w.'-]){re.escape(alias)}\.({NAME})", text))
         else:
             used = {n.split(" as ")[0].strip() for n in names.split(",")}
-        wrong += [f"{other}/specs/{where}: {n}" for n in sorted(used & inside)]
+        found.append((crate, where, file, used))
+    found += [(crate, where, file, {name}) for crate, where, file, name in WHOLE.findall(USE.sub("", text))]
+    return [of_file(*it) for it in found if os.path.isdir(f"crates/{it[0]}")]
+
+
+def of_file(crate, where, file, names):
+    """The same, where the names are constructors: those of the data type T of a file F stand in F.T."""
+    above, _, of = file.rpartition(".")
+    if os.path.exists(path(crate, where, file)) or not os.path.exists(path(crate, where, above)):
+        return crate, where, file, names
+    return crate, where, above, {of} | names
+
+
+def rests_on(crate, where, file, believed):
+    """What the file takes from unlisted files and can look into, and what it takes from no file that is there."""
+    wrong = []
+    for other, part, of, used in taken(source(crate, where, file)):
+        # What rt makes of the structs and enums of src/ has no file.
+        if (other, part, of) in believed or (part, of.split(".")[0]) == ("specs", "declared"):
+            continue
+        there = os.path.exists(path(other, part, of))
+        inside = definitions(source(other, part, of)) if there else used
+        wrong += [f"{other}/{part}/{of}: {n}" for n in sorted(used & inside)]
     return wrong
 
 
@@ -92,24 +128,44 @@ def edits():
     return sorted(there - named), sorted(n for n in named - there if n.split("/")[0] in os.listdir("crates"))
 
 
+def fits(crate, lines):
+    """Whether an edit can be applied: its pairs of lines old and new in turn, each old text once in its file as it is by then."""
+    file, old, before, after = "", "", {}, {}
+    for line in lines:
+        key, _, word = line.partition(":")
+        word = word.removeprefix(" ")
+        if key == "file":
+            file = word.strip()
+        elif key == "old":
+            old = word
+        elif key == "new":
+            if file not in before:
+                where = f"crates/{crate}/{file}"
+                if not file.startswith(("src/", "specs/", "proofs/")) or not os.path.isfile(where):
+                    return False
+                before[file] = after[file] = open(where, encoding="utf-8").read()
+            if not old or after[file].count(old) != 1:
+                return False
+            after[file], old = after[file].replace(old, word), ""
+    return not old and before != after
+
+
 def unfit():
-    """The edits whose old text does not stand exactly once in their file: the gate would refuse the edit itself."""
+    """The edits that cannot be applied: rt calls such an edit bad, and the gate fails."""
     wrong = []
     for crate in sorted(os.listdir("crates")):
         folder = f"crates/{crate}/must-fail"
         for name in sorted(os.listdir(folder)) if os.path.isdir(folder) else []:
-            lines = open(f"{folder}/{name}", encoding="utf-8").read().split("\n")
-            word = {key: next((l[len(key) + 2:] for l in lines if l.startswith(key + ": ")), "") for key in ("file", "old")}
-            text = open(f"crates/{crate}/{word['file'].strip()}", encoding="utf-8").read()
-            if not word["old"] or text.count(word["old"]) != 1:
-                wrong.append(f"{crate}/{name[:-5]}")
+            with open(f"{folder}/{name}", encoding="utf-8") as edit:
+                if not fits(crate, edit.read().split("\n")):
+                    wrong.append(f"{crate}/{name[:-5]}")
     return wrong
 
 
 def every_file():
     """The repository's files as text: (path, text). What rt, cargo and git make is left out."""
     for folder, inner, names in os.walk("."):
-        inner[:] = sorted(name for name in inner if name not in ("target", ".git", ".drafts", "__pycache__"))
+        inner[:] = sorted(name for name in inner if name not in ("target", "out", ".git", ".drafts", "__pycache__"))
         for name in sorted(names):
             where = os.path.relpath(os.path.join(folder, name))
             with open(where, encoding="utf-8", errors="replace") as file:
@@ -151,16 +207,17 @@ def main():
     files = listed()
     believed = set(files)
     faults = 0
-    for crate, file in files:
-        if not os.path.exists(path(crate, file)):
-            print(f"{crate}/specs/{file}: listed, but not there")
+    for it in files:
+        label = "/".join(it)
+        if not os.path.exists(path(*it)):
+            print(f"{label}: listed, but not there")
             faults += 1
             continue
-        for name in laws(source(crate, file)):
-            print(f"{crate}/specs/{file}: has the law {name}")
+        for name in laws(source(*it)):
+            print(f"{label}: has the law {name}")
             faults += 1
-        for what in rests_on(crate, file, believed):
-            print(f"{crate}/specs/{file}: rests on {what}, which is not listed")
+        for what in rests_on(*it, believed):
+            print(f"{label}: rests on {what}, which is not listed")
             faults += 1
     unnamed, missing = edits()
     for edit in unnamed:
@@ -169,7 +226,7 @@ def main():
         print(f"{edit}: named in docs/PROMISES.md, but not there")
     lost = unfit()
     for edit in lost:
-        print(f"{edit}: the text that this must-fail edit replaces does not stand once in its file")
+        print(f"{edit}: this must-fail edit cannot be applied: each old text has to stand once in its file")
     wrong, citations = papers()
     for line in wrong:
         print(line)

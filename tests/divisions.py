@@ -3,8 +3,9 @@
 
 Looked at is src/ of the crates that reading, the safe states, the implementation check, the search, the check and the
 widest table use, by crates.txt; comments and contracts are no code. In the section "A division taken out" of
-docs/PROMISES.md the table of divisions names each function, or constant, that has `/` or `%`, as `crate::name`; every one
-that is named has one; and none of them is in a crate that goes from states to locations and clock values (WALKING).
+docs/PROMISES.md the table of divisions names each function, or constant, that has `/` or `%`, or calls a method that
+divides, as `crate::name`; every one that is named has one; and none of them is in a crate that goes from states to
+locations and clock values (WALKING).
 Run it at the repository's root; the exit status is 0 when all of it holds.
 """
 import glob
@@ -17,12 +18,14 @@ WALKING = ("clocks", "clocks_states", "clocks_walk", "clocks_regions", "clocks_m
 SECTION = "## A division taken out"
 HEAD = "| Where | Divides |"
 NAME = re.compile(r"\b(?:fn|const) (\w+)")
+DIVIDES = re.compile(r"[/%]|\.(?:\w+_)?(?:div|rem)(?:_\w+)?\(|multiple_of\(")  # also `n.div_ceil(8)`, `n.is_multiple_of(8)`
+CLAUSE = re.compile(r"\b(?:requires|ensures)\b[^{]*\{")
 
 
 def dependencies():
     """The crates of crates.txt, each with those that it names."""
     lines = [line for line in open("crates.txt", encoding="utf-8").read().split("\n") if line and not line.startswith("#")]
-    return {name: rest.split() for name, rest in (line.split(":") for line in lines)}
+    return {name.split()[0]: rest.split() for name, rest in (line.split(":") for line in lines)}  # `NAME staticlib: ..` too
 
 
 def reached():
@@ -38,9 +41,22 @@ def reached():
 
 def code(text):
     """The text without comments, contracts and ghost lines."""
-    text = re.sub(r"//[^\n]*", "", text)
-    text = re.sub(r"\b(?:requires|ensures)\b[^{]*\{.*?⌝\s*\}", "", text, flags=re.S)
-    return re.sub(r"^ghost [^\n]*", "", text, flags=re.M)
+    text = re.sub(r"^ghost [^;]*;", "", re.sub(r"//[^\n]*", "", text), flags=re.M)
+    parts, at = [], 0
+    for clause in CLAUSE.finditer(text):
+        if clause.start() >= at:
+            parts.append(text[at:clause.start()])
+            at = closed(text, clause.end())
+    return "".join([*parts, text[at:]])
+
+
+def closed(text, at):
+    """The place behind the brace that closes the one before a place; braces may stand within."""
+    depth = 1
+    while depth:
+        depth += {"{": 1, "}": -1}.get(text[at], 0)
+        at += 1
+    return at
 
 
 def divisions(crate):
@@ -51,7 +67,7 @@ def divisions(crate):
         for line in code(open(file, encoding="utf-8").read()).split("\n"):
             begun = NAME.search(line)
             name = begun.group(1) if begun else name
-            if re.search(r"[/%]", line):
+            if DIVIDES.search(line):
                 found.add(f"{crate}::{name}")
     return found
 

@@ -58,7 +58,7 @@ fn definitions_have_them_too() {
     let item = |line: &str| {
         let number = between(line, "= record { code = ", ";")?.parse().ok()?;
         let name = line.split_whitespace().next()?;
-        Some((name.replace('-', "_").to_ascii_uppercase(), number))
+        Some((name.to_ascii_uppercase(), number))
     };
     assert_eq!(text.lines().filter_map(item).collect::<Vec<(String, usize)>>(), here());
 }
@@ -138,12 +138,12 @@ fn other_numbers() {
     assert_eq!((tick.parse(), plain::TICK_LIMIT), (Ok(TICK_LIMIT), TICK_LIMIT));
 }
 
-/// The header's signs are those of the definitions (SPECIFICATION 15.2), a line `sign-number Less = 3` each.
+/// The header's signs are those of the definitions (SPECIFICATION 15.2), a line `sign_number Less = 3` each.
 #[test]
 fn signs() {
     let text = file("crates/reader_numbers/specs/Numbers.antt");
     let item = |line: &str| {
-        let (name, number) = line.strip_prefix("sign-number ")?.split_once(" = ")?;
+        let (name, number) = line.strip_prefix("sign_number ")?.split_once(" = ")?;
         Some((in_capitals(name), number.parse().ok()?))
     };
     let defined: Vec<(String, usize)> = text.lines().filter_map(item).collect();
