@@ -1,4 +1,4 @@
--- Laws of Definitions.antt which the definitions of Conjunction.antt need.
+-- Laws of specs/Definitions.antt which the definitions of Conjunction.antt need.
 use Rattle.std.specs.Prelude.{◌≡◌, ◌↔◌, Bool, not, ℕ, ◌≤◌, T}
 use Rattle.std.proofs.Common.{sym, subst}
 use Rattle.std.proofs.Math.Option.{Option, none, some}

@@ -1,5 +1,5 @@
 -- What the conjunction of two systems is made of (SPECIFICATION 18.1), systems that match move by move, and signatures
--- that say the same. Definitions only; the conjunction itself, which holds proofs, is in Conjunction.antt.
+-- that say the same. Definitions only; the conjunction itself, which holds proofs, is in proofs/Conjunction.antt.
 use Rattle.std.specs.Prelude.{◌≡◌, Bool, ◌&&◌, ℕ, T}
 use Rattle.std.proofs.Math.Option.{Option, none, some}
 use Rattle.systems.specs.Definitions.{Signature, Input, System}

@@ -10,7 +10,7 @@ use Rattle.systems.specs.Definitions.{Signature, System}
 use Rattle.systems.specs.Finite.{FiniteSystem, Capping, safe, safe_states, search_run, widest, cell}
 use Rattle.systems.proofs.Theorems.{safe_states_largest, implementation_iff, search_shortest}
 use Rattle.bitmaps.specs.Packed.{bytes_for, packed}
-use Rattle.search.specs.declared.SearchAnswer.TheVariants as search-answer
+use Rattle.search.specs.declared.SearchAnswer.TheVariants as search_answer
 use Rattle.search.specs.Outcome as search
 use Rattle.search.specs.Outcome.{search_systems}
 use Rattle.tables_header.specs.Header.{header_bytes, table_bytes, fits}
@@ -82,7 +82,7 @@ module _ {A : Signature} {M N : System A} {L R : FiniteSystem A} (C : Capping M 
       go o false false false false t ep eq er es et z = seventeen (ltb-false (length keep) (bytes_for L.size) ep)
           (ltb-false back pairs eq) (ltb-false line pairs er) (no_implementation es)
           (ap (λ (x : search.Outcome). x.answer) z
-          ∙ ap (λ (n : ℕ). search-answer.Refused (start_not_safe n)) start_number)
+          ∙ ap (λ (n : ℕ). search_answer.Refused (start_not_safe n)) start_number)
           (ap (λ (x : search.Outcome). x.run) z)
           (written_in keep o.keep ep (ap (λ (x : search.Outcome). x.keep) z))
       go o false false false true true ep eq er es et z = twenty_one (ltb-false (length keep) (bytes_for L.size) ep)

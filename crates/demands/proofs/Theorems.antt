@@ -1,8 +1,8 @@
 -- DEMANDS 1 TO 3 (SPECIFICATION 17.1 to 17.3) for any two systems M, the left, and N, the right, of one signature that
--- are capped to finite ones L and R: theorems about the outcomes of search, check and widest table (search-systems,
--- check-systems, widest-systems), to be read first. The words are defined in Words.antt, what is asked in Demands.antt
--- and Answers.antt; the other files of this crate are proofs. An operation over two texts is an instance: crate
--- guarantees.
+-- are capped to finite ones L and R: theorems about the outcomes of search, check and widest table (search_systems,
+-- check_systems, widest_systems), to be read first. The words are defined in specs/Words.antt, what is asked in
+-- specs/Demands.antt and specs/Answers.antt; the other files of this crate are proofs. An operation over two texts is
+-- an instance: crate guarantees.
 use Rattle.std.specs.Prelude.{List, ℕ}
 use Rattle.systems.specs.Definitions.{Signature, System, LargestSafeSet}
 use Rattle.systems.specs.Finite.{FiniteSystem, Capping, SafeAt}

@@ -21,10 +21,10 @@ use Rattle.demands.proofs.Kept.{keeps}
 use Rattle.demands.proofs.Files.{file, file_set, file_form, file_rest, file_long, file_denoted, file_padding, widest_length}
 
 -- the chain of judgements, with slices that are long enough and a safe start
-record MadeTable (keep_short table-short : Bool) (o f : Widened) : Type 0 where
+record MadeTable (keep_short table_short : Bool) (o f : Widened) : Type 0 where
   is : o ≡ f
   keep_long : keep_short ≡ false
-  table_long : table-short ≡ false
+  table_long : table_short ≡ false
 
 widest_passed : (b c d : Bool) (i j : ℕ) (t : Refusal) (keep kept given : List ℕ) (f : Widened) → d ≡ false
     → LongEnough (widest_refusal (cond b (widest_refused (keep_too_short i) keep given)

@@ -8,7 +8,7 @@ use Rattle.systems.specs.Definitions.{Signature, System, LargestSafeSet, Shortes
 use Rattle.bitmaps.specs.Packed.{bytes_for}
 use Rattle.tables_header.specs.Header.{table_bytes}
 use Rattle.tables_rows.specs.Raster.{denoted}
-use Rattle.search.specs.declared.SearchAnswer.TheVariants as search-answer
+use Rattle.search.specs.declared.SearchAnswer.TheVariants as search_answer
 use Rattle.search.specs.Outcome as search
 use Rattle.tables.specs.declared.CheckAnswer.TheVariants as checked
 use Rattle.tables.specs.declared.WidestAnswer.TheVariants as made
@@ -22,17 +22,17 @@ module _ {A : Signature} (M N : System A) (states right_states : ℕ) (number : 
   pub data SearchAnswers (keep : List ℕ) (back line : ℕ) (run : List ℕ) (o : search.Outcome) : Type 1 where
     -- 13: keep has less than a bit for each left state; everything lent is as it came
     thirteen : length keep < bytes_for states
-        → o ≡ record { answer = search-answer.Refused (keep_too_short (bytes_for states)); keep = keep; run = run }
+        → o ≡ record { answer = search_answer.Refused (keep_too_short (bytes_for states)); keep = keep; run = run }
         → SearchAnswers keep back line run o
     -- 15: back or line has fewer entries than there are pairs; everything lent is as it came
     fifteen : bytes_for states ≤ length keep
         → (back < states * right_states) ⊎ (line < states * right_states)
-        → o ≡ record { answer = search-answer.Refused (queue_too_short (states * right_states)); keep = keep; run = run }
+        → o ≡ record { answer = search_answer.Refused (queue_too_short (states * right_states)); keep = keep; run = run }
         → SearchAnswers keep back line run o
     -- 17: no implementation satisfies the left, so its start is not safe (SPECIFICATION 8.3); the run is as it came
     seventeen : bytes_for states ≤ length keep → states * right_states ≤ back → states * right_states ≤ line
         → (Consistent M → ⊥)
-        → o.answer ≡ search-answer.Refused (start_not_safe (number M.start))
+        → o.answer ≡ search_answer.Refused (start_not_safe (number M.start))
         → o.run ≡ run
         → KeepWritten M states number keep o.keep
         → SearchAnswers keep back line run o
@@ -40,12 +40,12 @@ module _ {A : Signature} (M N : System A) (states right_states : ℕ) (number : 
     twenty_one : bytes_for states ≤ length keep → states * right_states ≤ back → states * right_states ≤ line
         → Consistent M → (w : List ℕ) → length run < length w
         → ((S : M.State → Type 0) → LargestSafeSet M S → ShortestDeparture M N S w)
-        → o.answer ≡ search-answer.Refused (run_too_short (length w)) → o.run ≡ run
+        → o.answer ≡ search_answer.Refused (run_too_short (length w)) → o.run ≡ run
         → KeepWritten M states number keep o.keep
         → SearchAnswers keep back line run o
     -- n: demand 3 says what it means (Demands.antt)
     found : bytes_for states ≤ length keep → states * right_states ≤ back → states * right_states ≤ line
-        → Consistent M → (n : ℕ) → o.answer ≡ search-answer.Found n → n ≤ length run
+        → Consistent M → (n : ℕ) → o.answer ≡ search_answer.Found n → n ≤ length run
         → SearchAnswers keep back line run o
 
   -- the answers of the check of the table `given` (SPECIFICATION 12.5)

@@ -1,12 +1,12 @@
 -- What demands 2 and 3 (SPECIFICATION 17.2, 17.3) ask of the outcomes of search, check and widest table, for two
--- systems M, the left, and N, the right, of one signature. Definitions only: the theorems are in Theorems.antt.
+-- systems M, the left, and N, the right, of one signature. Definitions only: the theorems are in proofs/Theorems.antt.
 use Rattle.std.specs.Prelude.{◌≡◌, ◌↔◌, Bool, false, List, ℕ, ◌*◌, ◌≤◌, ◌<◌, T, length, take, drop}
 use Rattle.systems.specs.Tests.{ones}
 use Rattle.systems.specs.Definitions.{Signature, System, Implementation, Satisfies, LargestSafeSet, Makes, Allows, NoDeparture, ShortestDeparture, Refines}
 use Rattle.bitmaps.specs.Packed.{bytes_for}
 use Rattle.tables_header.specs.Header.{table_bytes}
 use Rattle.tables_rows.specs.Raster.{set_at, denoted}
-use Rattle.search.specs.declared.SearchAnswer.TheVariants as search-answer
+use Rattle.search.specs.declared.SearchAnswer.TheVariants as search_answer
 use Rattle.search.specs.Outcome as search
 use Rattle.tables.specs.declared.CheckAnswer.TheVariants as checked
 use Rattle.tables.specs.declared.WidestAnswer.TheVariants as made
@@ -22,7 +22,7 @@ module _ {A : Signature} (M N : System A) (states right_states : ℕ) (number : 
   pub record SearchDemand (keep run : List ℕ) (o : search.Outcome) : Type 1 where
     -- the answer is a number n (SPECIFICATION 12.4)
     pub n : ℕ
-    pub answer : o.answer ≡ search-answer.Found n
+    pub answer : o.answer ≡ search_answer.Found n
     -- run has its n steps in front, and behind them what it had before (SPECIFICATION 12.4, 12.7)
     pub written : length (take n o.run) ≡ n
     pub long : length o.run ≡ length run

@@ -1,5 +1,5 @@
 -- What is asked of the assignments of a text (SPECIFICATION 5.4, 6.3, 6.4, 17.13). Definitions only: the theorem is in
--- Guarantees.antt. When an edge gives a move is said in crate clocks, Faults.antt.
+-- proofs/Guarantees.antt. When an edge gives a move is said in crate clocks, Faults.antt.
 use Rattle.std.specs.Prelude.{◌≡◌, ◌↔◌, true, false, ℕ, ◌≤◌, ◌<◌, T}
 use Rattle.limits.specs.Limits.{clock_limit, largest_constant}
 use Rattle.reader_record.specs.declared.Text.{Text}

@@ -1,5 +1,5 @@
 -- What is asked of the comparisons of a text, by each of the five signs (SPECIFICATION 3.2, 6.2, 6.4, 7.4,
--- 17.7). Definitions only: the theorem is in Guarantees.antt.
+-- 17.7). Definitions only: the theorem is in proofs/Guarantees.antt.
 use Rattle.std.specs.Prelude.{◌≡◌, ◌↔◌, ◌⊎◌, ℕ, ◌+◌, ◌≤◌, ◌<◌, T}
 use Rattle.reader_record.specs.declared.Sign.TheVariants.{AtMost, AtLeast, Equal, Less, Greater}
 use Rattle.reader_record.specs.declared.Comparison.{Comparison}

@@ -1,6 +1,6 @@
 -- What is asked of the safe-state operation's own outcome, for an accepted text (SPECIFICATION 8.3, 8.4, 12.2).
--- Definitions only: the theorems are in Guarantees.antt. What is asked of the operations on two texts is defined in
--- crate demands.
+-- Definitions only: the theorems are in proofs/Guarantees.antt. What is asked of the operations on two texts is defined
+-- in crate demands.
 use Rattle.std.specs.Prelude.{◌≡◌, ◌↔◌, Bool, List, ℕ, T}
 use Rattle.systems.specs.Tests.{ones, table}
 use Rattle.systems.specs.Definitions.{LargestSafeSet}

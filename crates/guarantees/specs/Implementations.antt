@@ -1,6 +1,6 @@
 -- What is asked of the implementation check's own answer, for every text (SPECIFICATION 8.5, 8.6, 12.9, 17.8), over
--- configurations whose clocks are not capped. Definitions only: the theorem is in Guarantees.antt. The words are those of
--- crate reachable, Meaning.antt.
+-- configurations whose clocks are not capped. Definitions only: the theorem is in proofs/Guarantees.antt. The words are
+-- those of crate reachable, Meaning.antt.
 use Rattle.std.specs.Prelude.{◌≡◌, ◌↔◌, List, ℕ}
 use Rattle.refusals.specs.declared.Refusal.{Refusal}
 use Rattle.refusals.specs.Refusals.{output_beside_tick, neither_possible}

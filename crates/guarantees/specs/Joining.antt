@@ -1,5 +1,5 @@
 -- What is promised of joining two texts (SPECIFICATION 12.10, 17.10, 18): when codes 25 and 26 come, and what the joined
--- text means. Definitions only: the theorem is in Guarantees.antt.
+-- text means. Definitions only: the theorem is in proofs/Guarantees.antt.
 use Rattle.std.specs.Prelude.{◌≡◌, ◌↔◌, List, ◌++◌, ℕ, ◌≤◌, ◌<◌, length, take, drop}
 use Rattle.std.proofs.Math.Option.{none}
 use Rattle.limits.specs.Limits.{shortest_tick, largest_text, state_limit}

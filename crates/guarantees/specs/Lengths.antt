@@ -1,6 +1,6 @@
 -- What is asked of tick lengths (SPECIFICATION 4.7, 13.3, 13.4, 17.9): how constants come to ticks, and that an
 -- operation gives 24 exactly where the tick length is not allowed, and then leaves everything lent as it came.
--- Definitions only: the theorems are in Guarantees.antt.
+-- Definitions only: the theorems are in proofs/Guarantees.antt.
 use Rattle.std.specs.Prelude.{◌≡◌, List, ℕ, ◌+◌, ◌*◌, ◌≤◌, ◌<◌}
 use Rattle.limits.specs.Limits.{TickLength, shortest_tick}
 use Rattle.refusals.specs.Refusals.{tick_out_of_range}
@@ -11,7 +11,7 @@ use Rattle.clocks_read.specs.Reading.{read_outcome}
 use Rattle.safe_states.specs.declared.SafeAnswer.TheVariants as counted
 use Rattle.safe_states.specs.Outcome.{safe_outcome}
 use Rattle.implementation_check.specs.Outcome.{implementation_outcome}
-use Rattle.search.specs.declared.SearchAnswer.TheVariants as search-answer
+use Rattle.search.specs.declared.SearchAnswer.TheVariants as search_answer
 use Rattle.tables.specs.declared.CheckAnswer.TheVariants as checked
 use Rattle.tables.specs.declared.WidestAnswer.TheVariants as made
 use Rattle.two_operations.specs.Outcome.{search_outcome, check_outcome, widest_outcome}
@@ -40,7 +40,7 @@ pub record LengthRefused (period : ℕ) : Type 0 where
   pub implementation : (s : List ℕ) → implementation_outcome period s ≡ verdict.Refused (tick_out_of_range period)
   pub search : (left right keep : List ℕ) (back line : ℕ) (run : List ℕ)
       → search_outcome period left right keep back line run
-      ≡ record { answer = search-answer.Refused (tick_out_of_range period); keep = keep; run = run }
+      ≡ record { answer = search_answer.Refused (tick_out_of_range period); keep = keep; run = run }
   pub check : (left right keep table : List ℕ)
       → check_outcome period left right keep table
       ≡ record { answer = checked.Refused (tick_out_of_range period); keep = keep }

@@ -1,17 +1,8 @@
-pub mod Guarantees
 pub mod Texts
 pub mod Demands
 pub mod Comparisons
-pub mod Setting
-pub mod Counted
-pub mod Compared
 pub mod Implementations
-pub mod Implemented
 pub mod Lengths
-pub mod Allowed
 pub mod Parallel
-pub mod OneMove
 pub mod Assignments
-pub mod Assigned
 pub mod Joining
-pub mod Joins

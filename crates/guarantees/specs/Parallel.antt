@@ -1,6 +1,6 @@
 -- What is asked of codes 10 and 11 and of parallel edges, for every text (SPECIFICATION 6.3, 7.2, 17.12). Definitions
--- only: the theorem is in Guarantees.antt. Which edges give moves and lead to different states, and what the lowest state
--- and channel are, is said in crate clocks, Faults.antt.
+-- only: the theorem is in proofs/Guarantees.antt. Which edges give moves and lead to different states, and what the
+-- lowest state and channel are, is said in crate clocks, Faults.antt.
 use Rattle.std.specs.Prelude.{◌≡◌, ◌↔◌, List, ℕ, ◌≤◌, ◌<◌, T}
 use Rattle.std.proofs.Math.Option.{some}
 use Rattle.limits.specs.Limits.{state_limit}

@@ -22,8 +22,8 @@ use Rattle.joining.specs.declared.JoinAnswer.TheVariants.{Written, Refused}
 use Rattle.joining.specs.Outcome.{Outcome, joined_record, joined_bytes, join_outcome}
 use Rattle.guarantees.specs.Texts.{AcceptedText}
 use Rattle.guarantees.specs.Joining.{Within, Joins, Joinable}
-use Rattle.guarantees.specs.Setting.{nothing_found}
-use Rattle.guarantees.specs.Guarantees.{joining_exactly}
+use Rattle.guarantees.proofs.Setting.{nothing_found}
+use Rattle.guarantees.proofs.Guarantees.{joining_exactly}
 use Rattle.guarantees_starred.proofs.Posts.{Known, post_known, overridden_known, idle_known, twice_known}
 use Rattle.guarantees_starred.proofs.Runs.{post_idle_equal, post_overridden_equal, twice_twice_equal}
 use Rattle.guarantees_starred.proofs.Outcomes.{left_accepted, right_accepted, channels_equal}

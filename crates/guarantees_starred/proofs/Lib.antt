@@ -5,6 +5,6 @@ pub mod Tables
 pub mod Outcomes
 pub mod Safe
 pub mod Starred
-pub mod Met
+pub mod Hypotheses
 pub mod Implementations
 pub mod Joined

@@ -4,7 +4,7 @@ use Rattle.systems.specs.Tests.{all, any}
 use Rattle.systems.proofs.Compute.{opened_fast}
 use Rattle.systems.specs.Renumbered.{renumbered}
 use Rattle.reader_record.specs.Record.{channel}
-use Rattle.reader_tokens.specs.Scan.{agree as letters-agree, same}
+use Rattle.reader_tokens.specs.Scan.{agree as letters_agree, same}
 use Rattle.reader_constraints.specs.Constraints.{blank_constraint}
 use Rattle.reader_lists.specs.State.{blank_edge}
 use Rattle.clocks.specs.Meaning.{clock_value, compares, met, holds, invariant, assigned, after, equal_config, one_if, also, gives, edge_move, edge_moves, ticked, tick_move, moves, start_of}
@@ -21,7 +21,7 @@ unfolding all any blank_constraint blank_edge channel clock_value compares met h
 opened_states = tt
 
 unfoldable pub opened_pairing : Unit {0}
-unfolding letters-agree same alike first_from lowest partner agree matched first_unmatched verdict unmatched
+unfolding letters_agree same alike first_from lowest partner agree matched first_unmatched verdict unmatched
     right_step renumbered
 opened_pairing = tt
 

@@ -34,7 +34,7 @@ use Rattle.tables_whole.specs.TableFile.{table_file}
 use Rattle.tables.specs.declared.WidestAnswer.TheVariants as made
 use Rattle.tables.specs.Outcome.{Checked, check_refused, scanned, check_systems, Widened, widest_refused, widest_systems}
 use Rattle.guarantees.specs.Texts.{AcceptedText, EqualChannels}
-use Rattle.guarantees.specs.Setting.{both, search_is, check_is, widest_is}
+use Rattle.guarantees.proofs.Setting.{both, search_is, check_is, widest_is}
 use Rattle.guarantees_starred.specs.Sentences.{Room, Searches}
 use Rattle.guarantees_starred.proofs.Posts.{Known}
 use Rattle.guarantees_starred.proofs.Runs.{Pair, left_of, right_of}
@@ -120,7 +120,7 @@ module _ {A : Signature} {L R : FiniteSystem A} {n m : ℕ} {K : List Bool} (F :
       → Room n m 0 keep back line run
       → search_systems L R keep back line run ≡ search.refused (start_not_safe 0) (packed n K keep) run
   unfolding search_systems
-  search_start_refused unsafe-start keep back line run room =
+  search_start_refused unsafe_start keep back line run room =
       at_third (ltb (length keep) (bytes_for L.size))
       (ltb back (L.size * R.size) || ltb line (L.size * R.size)) (not (safe L L.start))
       (search.refused (keep_too_short (bytes_for L.size)) keep run)
@@ -132,7 +132,7 @@ module _ {A : Signature} {L R : FiniteSystem A} {n m : ℕ} {K : List Bool} (F :
       (keep_long keep room.keep_room)
       (either_false (ltb back (L.size * R.size)) (ltb line (L.size * R.size)) (pairs_long back room.back_room)
       (pairs_long line room.line_room))
-      (start_is false unsafe-start)
+      (start_is false unsafe_start)
       ∙ ap (λ (i : ℕ). search.refused (start_not_safe i) (packed L.size (safe_states L) keep) run) F.start
       ∙ ap (λ (k : List ℕ). search.refused (start_not_safe 0) k run) (kept_is keep)
 
@@ -140,13 +140,13 @@ module _ {A : Signature} {L R : FiniteSystem A} {n m : ℕ} {K : List Bool} (F :
       → table_bytes m n ≤ length table
       → widest_systems L R keep table ≡ widest_refused (start_not_safe 0) (packed n K keep) table
   unfolding widest_systems
-  widest_start_refused unsafe-start keep table h k =
+  widest_start_refused unsafe_start keep table h k =
       at_third (ltb (length keep) (bytes_for L.size)) (ltb (length table) (table_bytes R.size L.size))
       (not (safe L L.start))
       (widest_refused (keep_too_short (bytes_for L.size)) keep table)
       (widest_refused (table_too_short (table_bytes R.size L.size)) keep table)
       (widest_refused (start_not_safe L.start) (packed L.size (safe_states L) keep) table) _
-      (keep_long keep h) (table_long table k) (start_is false unsafe-start)
+      (keep_long keep h) (table_long table k) (start_is false unsafe_start)
       ∙ ap (λ (i : ℕ). widest_refused (start_not_safe i) (packed L.size (safe_states L) keep) table) F.start
       ∙ ap (λ (k : List ℕ). widest_refused (start_not_safe 0) k table) (kept_is keep)
 
@@ -154,12 +154,12 @@ module _ {A : Signature} {L R : FiniteSystem A} {n m : ℕ} {K : List Bool} (F :
       → fits m n table ≡ true
       → check_systems L R keep table ≡ check_refused (start_not_safe 0) (packed n K keep)
   unfolding check_systems
-  check_start_refused unsafe-start keep table h form =
+  check_start_refused unsafe_start keep table h form =
       at_third (ltb (length keep) (bytes_for L.size)) (not (fits R.size L.size table))
       (not (safe L L.start))
       (check_refused (keep_too_short (bytes_for L.size)) keep) (check_refused other_table keep)
       (check_refused (start_not_safe L.start) (packed L.size (safe_states L) keep)) _
-      (keep_long keep h) (form_is table form) (start_is false unsafe-start)
+      (keep_long keep h) (form_is table form) (start_is false unsafe_start)
       ∙ ap (λ (i : ℕ). check_refused (start_not_safe i) (packed L.size (safe_states L) keep)) F.start
       ∙ ap (check_refused (start_not_safe 0)) (kept_is keep)
 

@@ -1,5 +1,6 @@
 -- The starred posts, that is the examples that are proved: what SPECIFICATION 16.2 to 16.6 and 16.8 to 16.10 say of the
--- ten texts and of two more, at tick length 1 but for Sheet. Definitions only: Starred.antt proves them (SPECIFICATION 17.4).
+-- ten texts and of two more, at tick length 1 but for Sheet. Definitions only: proofs/Starred.antt proves them
+-- (SPECIFICATION 17.4).
 use Rattle.std.specs.Prelude.{◌≡◌, true, false, List, [], ◌∷◌, ◌++◌, ℕ, ◌*◌, ◌≤◌, length, drop}
 use Rattle.reader_examples.specs.Texts.{post, rearm, early, strict, loose, sheet, hush, idle, spare, twice, stay_or_go, reset_or_not, woken, overridden, too_late, late_or_not}
 use Rattle.refusals.specs.declared.Verdict.TheVariants as verdict

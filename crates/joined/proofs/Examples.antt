@@ -18,14 +18,14 @@ use Rattle.reader_record.specs.declared.Text.{Text}
 use Rattle.reader_record.specs.Record.{no_name, no_assignment, written_once, direction_of, assignment, edge, channel}
 use Rattle.reader_constraints.specs.Constraints.{blank_constraint}
 use Rattle.reader_lists.specs.State.{blank_edge}
-use Rattle.refusals.specs.declared.Verdict.TheVariants as verdict-of
+use Rattle.refusals.specs.declared.Verdict.TheVariants as verdict_of
 use Rattle.reader.specs.declared.Parsed.{Parsed}
 use Rattle.reader.specs.Reading.{read_text}
 use Rattle.reader_formed.proofs.Formed.{read_formed}
 use Rattle.reader_examples.specs.Texts.{post, rearm, overridden, idle}
 use Rattle.reader_examples.specs.Records.{set_to, post_record, rearm_record, overridden_record, idle_record}
 use Rattle.reader_examples.specs.Read.{ReadsTo, post_read, rearm_read}
-use Rattle.reader_tokens.specs.Scan.{agree as letters-agree, same}
+use Rattle.reader_tokens.specs.Scan.{agree as letters_agree, same}
 use Rattle.reader_record.specs.Formed.{WellFormed}
 use Rattle.clocks.specs.Meaning.{clock_value, compares, met, holds, invariant, assigned, after, equal_config, one_if, also, gives, edge_move, edge_moves, ticked, tick_move, moves, start_of}
 use Rattle.clocks.specs.States.{most, constant_for, largest_in, largest_at, largest, values, ranges, state_count, cap, state, config, leads, state_moves, next, state_invariant, start_state, is_input, input, too_many, or_else, first_fault, fault, step_fault, state_fault, states_judged, judgement}
@@ -40,7 +40,7 @@ use Rattle.joined.proofs.Results.{texts_conjunction}
 
 -- everything that joining and judging go through, opened
 unfoldable pub opened : Unit {0}
-unfolding letters-agree same alike first_from lowest partner agree matched first_unmatched verdict unmatched
+unfolding letters_agree same alike first_from lowest partner agree matched first_unmatched verdict unmatched
     right_step all any tab_from blank_constraint blank_edge channel clock_value compares met holds invariant assigned
     after equal_config one_if also gives edge_move edge_moves ticked tick_move moves start_of most constant_for
     largest_in largest_at largest values ranges state_count cap state config leads state_moves next state_invariant
@@ -206,7 +206,7 @@ four_clocks = refl
 -- the hypotheses can be met: Post and Rearm are accepted and have equal channels, so what is said of joined records
 -- holds of theirs
 module _ (s : List ℕ) (t : Text) (e : ReadsTo s t) where
-  pub read_answer : (read_text shortest_tick s).answer ≡ verdict-of.Accepted
+  pub read_answer : (read_text shortest_tick s).answer ≡ verdict_of.Accepted
   read_answer = ap (λ (p : Parsed). p.answer) e
 
   pub formed_record : WellFormed t

@@ -1,5 +1,5 @@
--- What is promised of the joined record: statements over the definitions of Joined.antt, Paired.antt, Alike.antt and
--- Conjunction.antt; each is proved by the laws that it cites. f gives the right's number of a left's step.
+-- What is promised of the joined record: statements over the definitions of specs/Joined.antt, Paired.antt, Alike.antt
+-- and Conjunction.antt; each is proved by the laws that it cites. f gives the right's number of a left's step.
 use Rattle.std.specs.Prelude.{List, ℕ, ◌≤◌, T}
 use Rattle.limits.specs.Limits.{state_limit}
 use Rattle.reader_record.specs.declared.Text.{Text}

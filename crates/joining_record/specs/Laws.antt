@@ -24,7 +24,7 @@ use Rattle.reader_record.specs.Formed.{WellFormed}
 use Rattle.clocks.specs.States.{is_input, input}
 use Rattle.joined.specs.Joined.{pair, both_constraints, has_channel, joined_edges, joined_channel, joined_location, joined_text, few, CountsFit, counts_fit}
 use Rattle.joined.proofs.Alike.{AlikeConstraint, AlikeEdge, Alike}
-use Rattle.joined.proofs.Formed.{invariant_at as joined-invariant, pair_lt, fits_means, fits_test}
+use Rattle.joined.proofs.Formed.{invariant_at as joined_invariant, pair_lt, fits_means, fits_test}
 use Rattle.joining_items.specs.Items.{Nearly, NearEdge, Joinable}
 use Rattle.joining_items.specs.Laws.{nearly_alike, below_last}
 use Rattle.joining_edges.specs.declared.Edges.{Edges}
@@ -183,7 +183,7 @@ module _ (f : ℕ → ℕ) (l r : Text) where
   location_at : (i : ℕ) → i < l.location_count * r.location_count
       → invariant_of (joined_text f l r) i ≡ (joined_location l r i).invariant
   unfolding joined_location
-  location_at i h = joined-invariant f l r i h
+  location_at i h = joined_invariant f l r i h
 
   edge_is : (i : ℕ) → edge (joined_text f l r) i ≡ edge_at (joined_edges f l r) i
   unfolding joined_text

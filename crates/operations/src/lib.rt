@@ -2,8 +2,8 @@
 // code and promise of the whole tool on one page. `period` is the tick length in milliseconds, one for all texts of a
 // call; one that is not allowed is refused with code 24 before all else (SPECIFICATION 4.7, 13.3). Each parses and
 // measures what it is given, makes slices that have room for it, small ones where small ones do, and hands them to the
-// layers below. There is no heap, and no way to hand a function slices that are made elsewhere by a choice: so the
-// choice stands in each of them.
+// layers below. Nothing is on the heap, so no call can run out of memory; arrays of two lengths are of two types, so the
+// choice between them stands in each of them.
 #![tactic(auto)]
 
 ghost use Rattle.std.specs.Prelude.{◌≡◌, length};

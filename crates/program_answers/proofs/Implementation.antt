@@ -1,4 +1,4 @@
--- What program implementation's line means: for any file, what it prints is one of the answers of Answers.antt
+-- What program implementation's line means: for any file, what it prints is one of the answers of specs/Answers.antt
 -- (SPECIFICATION 17.8). A theorem from the guarantees.
 use Rattle.std.specs.Prelude.{◌≡◌, refl, List, ℕ}
 use Rattle.std.proofs.Common.{ap}
@@ -10,8 +10,8 @@ use Rattle.reachable.specs.Meaning.{Says}
 use Rattle.clocks_read.specs.Reading.{read_outcome}
 use Rattle.implementation_check.specs.Outcome.{found_answer, implementation_outcome}
 use Rattle.guarantees.specs.Texts.{AcceptedText, meaning, number}
-use Rattle.guarantees.specs.Guarantees.{implementation_exactly}
-use Rattle.guarantees.specs.Implemented.{right_finding}
+use Rattle.guarantees.proofs.Guarantees.{implementation_exactly}
+use Rattle.guarantees.proofs.Implemented.{right_finding}
 use Rattle.printed.specs.Prints.{program_tick, verdict_line, implementation_prints}
 use Rattle.program_answers.specs.Answers.{ImplementationAnswers}
 

@@ -1,5 +1,5 @@
--- What program join prints: for any two files it is one of the answers of Answers.antt (SPECIFICATION 17.10). A theorem
--- from the guarantees.
+-- What program join prints: for any two files it is one of the answers of specs/Answers.antt (SPECIFICATION 17.10). A
+-- theorem from the guarantees.
 use Rattle.std.proofs.Math.Path.{◌≡◌, refl, ap}
 use Rattle.std.proofs.Common.{sym, subst, ◌∙◌, arith}
 use Rattle.std.proofs.Math.Option.{Option, none, some}
@@ -12,7 +12,7 @@ use Rattle.joining.specs.declared.JoinAnswer.{JoinAnswer}
 use Rattle.joining.specs.declared.JoinAnswer.TheVariants.{Written, Refused}
 use Rattle.joining.specs.Outcome.{Outcome, joined_record, joined_bytes, join_outcome}
 use Rattle.guarantees.specs.Joining.{Within, Joins}
-use Rattle.guarantees.specs.Guarantees.{join_judged, joining_exactly}
+use Rattle.guarantees.proofs.Guarantees.{join_judged, joining_exactly}
 use Rattle.printed.specs.Prints.{program_tick, zeros}
 use Rattle.printed.specs.Fits.{zeros_length}
 use Rattle.printed_lines.specs.Lines.{refusal_line}

@@ -1,4 +1,4 @@
--- What program megzhoi's lines mean: for any two files, what it prints is one of the answers of Answers.antt
+-- What program megzhoi's lines mean: for any two files, what it prints is one of the answers of specs/Answers.antt
 -- (SPECIFICATION 17.5). A theorem from the demands.
 use Rattle.std.specs.Prelude.{◌≡◌, ◌⊎◌, length}
 use Rattle.std.proofs.Math.Path.{refl, ap, subst}
@@ -17,7 +17,7 @@ use Rattle.systems.specs.Definitions.{LargestSafeSet, ShortestDeparture}
 use Rattle.bitmaps.specs.Packed.{bytes_for}
 use Rattle.bitmaps.specs.BitLaws.{less}
 use Rattle.two_texts.specs.Two.{text_of, two_judged}
-use Rattle.search.specs.declared.SearchAnswer.TheVariants as search-answer
+use Rattle.search.specs.declared.SearchAnswer.TheVariants as search_answer
 use Rattle.search.specs.Outcome.{Outcome}
 use Rattle.tables.specs.declared.WidestAnswer.TheVariants as made
 use Rattle.two_operations.specs.Outcome.{search_outcome, widest_outcome}
@@ -26,7 +26,7 @@ use Rattle.demands.proofs.Long.{no_refusal}
 use Rattle.demands.specs.Demands.{SearchDemand}
 use Rattle.demands.specs.Answers.{SearchAnswers, WidestAnswers}
 use Rattle.guarantees.specs.Texts.{AcceptedText, EqualChannels, states, meaning, number, right_meaning, right_number}
-use Rattle.guarantees.specs.Guarantees.{safe_states_exist, texts_judged, search_judged, demand_1_search, demand_1_widest, demand_2_widest, demand_3}
+use Rattle.guarantees.proofs.Guarantees.{safe_states_exist, texts_judged, search_judged, demand_1_search, demand_1_widest, demand_2_widest, demand_3}
 use Rattle.byte_slices.specs.Decimal.{ascii}
 use Rattle.printed_lines.specs.Lines.{line, step_lines, departure_lines}
 use Rattle.printed.specs.Prints.{program_tick, zeros, entries, counted_bytes, widest_line, search_lines, megzhoi_prints}
@@ -56,7 +56,7 @@ module _ (left right : List ℕ) (a : AcceptedText program_tick left) (b : Accep
 
   -- a search that gives a number gives it as demand 3 says
   by_number : Consistent (meaning program_tick left a) → (run : List ℕ) (n : ℕ) → (searched run).answer
-      ≡ search-answer.Found n
+      ≡ search_answer.Found n
       → Demand run
   unfolding search_refusal
   by_number c run n f = demand_3 program_tick left right a b e c (zeros keep_limit) entries entries run
@@ -128,7 +128,7 @@ module _ (left right : List ℕ) (a : AcceptedText program_tick left) (b : Accep
 
     -- NO: the steps that are written
     no_lines : (n : ℕ) (run : List ℕ) → 0 < n → length (take n run) ≡ n
-        → search_lines left right (search-answer.Found n) run
+        → search_lines left right (search_answer.Found n) run
         ≡ departure_lines left (text_of program_tick left).channels (length (take n run)) (take n run)
     unfolding search_lines departure_lines
     no_lines n run m l =
@@ -137,7 +137,7 @@ module _ (left right : List ℕ) (a : AcceptedText program_tick left) (b : Accep
         (sym (take_all n (take n run) (omega (arith, l)))))
 
     counted_answer : Consistent (meaning program_tick left a) → (n : ℕ) → (searched (zeros entries)).answer
-        ≡ search-answer.Found n
+        ≡ search_answer.Found n
         → Answers left right (megzhoi_prints left right)
     unfolding megzhoi_prints
     counted_answer c n f =
@@ -150,11 +150,11 @@ module _ (left right : List ℕ) (a : AcceptedText program_tick left) (b : Accep
         (ap (λ o. search_lines left right o run) y.answer ∙ no_lines y.n run m y.written))
         (λ (m : y.n ≤ 0).
         let z : y.n ≡ 0 = omega arith in
-        subst (Answers left right) (sym (ap (λ o. search_lines left right o run) (y.answer ∙ ap search-answer.Found z) ∙ yes_lines run))
+        subst (Answers left right) (sym (ap (λ o. search_lines left right o run) (y.answer ∙ ap search_answer.Found z) ∙ yes_lines run))
         (yes_answer c (y.satisfied.0 z)))
         (less 0 y.n)
       where
-        yes_lines : (run : List ℕ) → search_lines left right (search-answer.Found 0) run
+        yes_lines : (run : List ℕ) → search_lines left right (search_answer.Found 0) run
             ≡ widest_line (widest_outcome program_tick left right (zeros keep_limit) (zeros counted_bytes)).answer
         yes_lines run = unfold search_lines in refl
 

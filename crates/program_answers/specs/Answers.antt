@@ -1,6 +1,6 @@
 -- What program megzhoi's lines mean, for any two files (SPECIFICATION 14.2, 14.4, 17.5), what program implementation's
 -- line means, for any file (SPECIFICATION 14.7, 17.8), and what program join prints, for any two files (SPECIFICATION
--- 14.8, 17.10). Definitions only: Program.antt, Implementation.antt and Joining.antt prove it.
+-- 14.8, 17.10). Definitions only: proofs/Program.antt, proofs/Implementation.antt and proofs/Joining.antt prove it.
 use Rattle.std.specs.Prelude.{◌≡◌, true, List, ℕ, ◌*◌, ◌≤◌, ◌<◌, length}
 use Rattle.std.proofs.Math.Option.{none, some}
 use Rattle.limits.specs.Limits.{keep_limit}

@@ -1,6 +1,5 @@
-// A text and the place that the reader has come to in it, for tokens in their order (SPECIFICATION 4.6). The borrow
-// checker covers no function over a struct that holds a slice, so each is thin and proved by hand; the work is
-// `reader_tokens::token_at`, and callers use `scan`.
+// A text and the place that the reader has come to in it, for tokens in their order (SPECIFICATION 4.6). Each function
+// is thin; the work is `reader_tokens::token_at`, and callers use `scan`.
 #![tactic(auto)]
 
 ghost use Rattle.std.specs.Prelude.{◌≡◌};

@@ -1,4 +1,4 @@
--- Laws of removal from a table (Tests.antt): rounds of it come to the largest part that a rule keeps, and so does
+-- Laws of removal from a table (specs/Tests.antt): rounds of it come to the largest part that a rule keeps, and so does
 -- removal of one entry at a time in any order.
 use Rattle.std.specs.Prelude.{◌≡◌, ◌↔◌, ◌⊎◌, ◌≢◌, Bool, not, ◌&&◌, length, set, replicate}
 use Rattle.std.proofs.Math.Path.{refl, sym, subst, ap}

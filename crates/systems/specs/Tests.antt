@@ -1,6 +1,6 @@
 -- Tests of numbers and tables of Booleans: the words in which Finite.antt computes the safe states, the check, the
 -- widest table and the search (SPECIFICATION 8.3, 11.5, 11.6, 10.4). No rule stands here. Definitions only; laws in
--- Bools.antt and Sieve.antt.
+-- Bools.antt and proofs/Sieve.antt.
 use Rattle.std.specs.Prelude.{Bool, true, false, not, ◌&&◌, ◌||◌, List, [], ◌∷◌, ℕ, zero, suc, get_or, replicate}
 use Rattle.std.proofs.Math.Option.{Option, none, some}
 

@@ -1,5 +1,5 @@
--- The scan of slices finds what Judged.antt finds in a table's pairs (SPECIFICATION 11.5), and it passes exactly where
--- the theory's check does.
+-- The scan of slices finds what specs/Judged.antt finds in a table's pairs (SPECIFICATION 11.5), and it passes exactly
+-- where the theory's check does.
 use Rattle.std.specs.Prelude.{◌≡◌, refl, ◌↔◌, ◌⊎◌, Bool, true, false, ◌&&◌, cond, List, ℕ, zero, suc, ◌+◌, ◌*◌, ◌≤◌, ◌<◌, ltb, get_or}
 use Rattle.std.proofs.Math.Path.{sym, subst, ap}
 use Rattle.std.proofs.Common.{◌∙◌, inl, inr, arith, T_not, lt-ltb, le-ltb}

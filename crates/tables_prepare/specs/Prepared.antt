@@ -30,7 +30,7 @@ pub record Prepared (sides : Sides) (inputs : List Bool) (holds moves moves' kee
       → Starts L sides.left_states holds → L.start ≡ sides.left_start → SafeLeft L sides moves' keep keep' start
 
 -- what an operation needs of the slices of two systems
-pub record ReadyTwo (sides : Sides) (inputs : List Bool) (left-moves right-moves left-holds : List ℕ) : Type 0 where
-  pub left : Ready sides inputs left-moves left-holds
-  pub right : Bounded sides.right_states sides.steps right-moves
+pub record ReadyTwo (sides : Sides) (inputs : List Bool) (left_moves right_moves left_holds : List ℕ) : Type 0 where
+  pub left : Ready sides inputs left_moves left_holds
+  pub right : Bounded sides.right_states sides.steps right_moves
   pub right_start : sides.right_start < sides.right_states

@@ -24,7 +24,7 @@ use Rattle.tables_shifts.proofs.Bits.{false_true, mask_bit, or_bits, or_false, o
 module _ {m : List ℕ} {w steps : ℕ} {classes masks : List ℕ} {c i : ℕ}
     (source : List ℕ) {k k' old part cut : List ℕ} {f e g : ℕ}
     (C : Class m w steps classes masks c i w) (hw : w ≤ state_limit)
-    (at_first : f ≡ first_of classes c i) (at-end : e ≡ end_of classes c i) (at_Target : g ≡ target_of classes c i)
+    (at_first : f ≡ first_of classes c i) (at_end : e ≡ end_of classes c i) (at_target : g ≡ target_of classes c i)
     (M : Filled (λ (j : ℕ). get_or masks (mask_at w c i + j) 0) (f / 8) (bytes_for e) old part)
     (Q : Cut f e (from_bit source f g) part cut)
     (J : Filled (λ (j : ℕ). bit_or (get_or k j 0) (get_or cut j 0)) (f / 8) (bytes_for e) k k') where
@@ -33,7 +33,7 @@ module _ {m : List ℕ} {w steps : ℕ} {classes masks : List ℕ} {c i : ℕ}
       → (f ≤ t) × ((t < e) × (from_bit source f g t ≡ landing source m steps c t))
   unfolding from_bit
   member t h b = let s = C.states t h b in
-      let there : goes m steps c t ≡ g + (t - f) = rw (at_first, at_Target) s.1.1 in
+      let there : goes m steps c t ≡ g + (t - f) = rw (at_first, at_target) s.1.1 in
       let fits = C.fits in (
         omega (arith, s.0),
         (

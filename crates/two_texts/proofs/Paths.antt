@@ -38,7 +38,7 @@ use Rattle.two_texts.specs.declared.TwoTexts.{TwoTexts}
 use Rattle.two_texts.specs.Two.{text_of, tick_judged, too_long_in, refused_in, refused_pairing, or_else, texts_judged, channels_judged, two_judged, step_of}
 use Rattle.two_texts.proofs.Laws.{Judged, judged_none, named}
 use Rattle.two_texts.specs.Loaded.{refusal_in, Loads}
-use Rattle.two_texts.specs.Answers.{refused, sides_of, accepted as accepted-two, Sized, AcceptedMeasure, by_left, Paired, RightLoaded}
+use Rattle.two_texts.specs.Answers.{refused, sides_of, accepted as accepted_two, Sized, AcceptedMeasure, by_left, Paired, RightLoaded}
 use Rattle.two_texts.proofs.Tables.{table_fits, step_below, map_at, both_loaded}
 use Rattle.limits.specs.Limits.{largest_text, tick_allowed, state_limit, step_limit}
 
@@ -55,8 +55,8 @@ accepted_none : (t : TwoTexts) → t.answer ≡ Accepted → refusal_in t.answer
 unfolding refusal_in
 accepted_none t e = rw e
 
-numbers_none : (t : TwoTexts) (l r : Text) → t ≡ accepted-two l r → none ≡ refusal_in t.answer
-unfolding refusal_in accepted-two
+numbers_none : (t : TwoTexts) (l r : Text) → t ≡ accepted_two l r → none ≡ refusal_in t.answer
+unfolding refusal_in accepted_two
 numbers_none t l r e = rw e
 
 -- the numbers
@@ -72,8 +72,8 @@ unfolding sides_of
 sides_done l r ln rn ls rs a b p q = rw (a, b, p, q)
 
 pub numbers_done : (l r : Text) (s : Sides) (i : List Bool) → s ≡ sides_of l r → i ≡ tab_from (input l) 0 step_limit
-    → ◌≡◌ {A = TwoTexts} (record { answer = Accepted; sides = s; inputs = i }) (accepted-two l r)
-unfolding accepted-two
+    → ◌≡◌ {A = TwoTexts} (record { answer = Accepted; sides = s; inputs = i }) (accepted_two l r)
+unfolding accepted_two
 numbers_done l r s i p q = rw (p, q)
 
 module _ (period : ℕ) where
@@ -156,11 +156,11 @@ module _ (period : ℕ) where
           → after ≡ written
           (renumbered d p.map (l.parsed.text.channel_count + 1) (l.parsed.text.channel_count + 1))
           (r.states * (l.parsed.text.channel_count + 1)) d
-          → t ≡ accepted-two l.parsed.text r.parsed.text
+          → t ≡ accepted_two l.parsed.text r.parsed.text
           → Paired period left right d d after t
       unfolding refused_pairing by_left
       paired_accepted d after t m q =
-          let n : t ≡ accepted-two (text_of period left) (text_of period right) = rw
+          let n : t ≡ accepted_two (text_of period left) (text_of period right) = rw
           (text_is left l L, text_is right r R) at q in
           record {
             judged = rw both_judged.equal (numbers_none t (text_of period left) (text_of period right) n);

@@ -24,7 +24,7 @@ use Rattle.pairing.specs.Equal.{tick_stays, step_there}
 use Rattle.two_texts.specs.Two.{text_of, step_of, Compared, right_system}
 use Rattle.two_texts.proofs.Laws.{Judged, named, channels_equal}
 use Rattle.two_texts.specs.Loaded.{Loaded}
-use Rattle.two_texts.specs.Answers.{sides_of, accepted as accepted-two, size_by_left, by_left, RightFilled}
+use Rattle.two_texts.specs.Answers.{sides_of, accepted as accepted_two, size_by_left, by_left, RightFilled}
 use Rattle.limits.specs.Limits.{step_limit}
 
 -- a text's table fits wherever one with the most steps does
@@ -113,8 +113,8 @@ module _ (period : ℕ) where
   -- what is known of the slices of both texts is what the operations above work on
   module _ (left right lm rm lh rh : List ℕ) (j : Judged period left right) (c : Compared period left right)
       (L : Filled (text_of period left) lm lh) (R : RightFilled period left right rm rh) where
-    pub both_loaded : Loaded period c lm rm lh rh (accepted-two (text_of period left) (text_of period right))
-    unfolding accepted-two sides_of renumbered system
+    pub both_loaded : Loaded period c lm rm lh rh (accepted_two (text_of period left) (text_of period right))
+    unfolding accepted_two sides_of renumbered system
     both_loaded =
         let l = text_of period left in
         let r = text_of period right in

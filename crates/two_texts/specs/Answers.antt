@@ -1,4 +1,4 @@
--- What the parts of loading answer. Definitions only; the laws of the code's paths are in Paths.antt.
+-- What the parts of loading answer. Definitions only; the laws of the code's paths are in proofs/Paths.antt.
 use Rattle.std.specs.Prelude.{◌≡◌, false, List, ℕ, ◌+◌, ◌*◌, ◌≤◌, length, replicate}
 use Rattle.refusals.specs.declared.Refusal.{Refusal}
 use Rattle.reader_record.specs.declared.Text.{Text}

@@ -18,12 +18,12 @@ module _ (period : ℕ) where
   -- the numbers of t and the slices are those of the two texts, the right's moves by the left's step numbers
   abbrev pub Loaded : {left right : List ℕ} → Compared period left right → List ℕ → List ℕ → List ℕ → List ℕ → TwoTexts
       → Type 0
-  Loaded c left-moves right-moves left-holds right-holds t = Held (left_system period c) (right_system period c)
+  Loaded c left_moves right_moves left_holds right_holds t = Held (left_system period c) (right_system period c)
       t.sides t.inputs
-      left-moves right-moves left-holds right-holds
+      left_moves right_moves left_holds right_holds
 
   -- what loading two texts promises
-  pub record Loads (left right left-moves right-moves left-holds right-holds : List ℕ) (t : TwoTexts) : Type 0 where
+  pub record Loads (left right left_moves right_moves left_holds right_holds : List ℕ) (t : TwoTexts) : Type 0 where
     pub judged : two_judged period left right ≡ refusal_in t.answer
     pub loaded : (c : Compared period left right) → t.answer ≡ Accepted
-        → Loaded c left-moves right-moves left-holds right-holds t
+        → Loaded c left_moves right_moves left_holds right_holds t

@@ -22,9 +22,9 @@ pub few_within : (n w : ℕ) → n ≤ few_states → Few (leb w few_states) n w
 few_within n w h = record { left = λ _. h; right = λ e. leb-true w few_states e }
 
 -- slices of these lengths have room for both
-pub record Rooms (b : MeasuredTexts) (left-moves right-moves left-holds right-holds : ℕ) : Type 0 where
-  pub left : Room b.left.states left-moves left-holds
-  pub right : Room b.right.states right-moves right-holds
+pub record Rooms (b : MeasuredTexts) (left_moves right_moves left_holds right_holds : ℕ) : Type 0 where
+  pub left : Room b.left.states left_moves left_holds
+  pub right : Room b.right.states right_moves right_holds
 
 -- small slices have it where both have few states, the large ones always
 module _ (b : MeasuredTexts) (lm rm lh rh : ℕ) where

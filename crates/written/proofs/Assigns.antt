@@ -17,7 +17,7 @@ use Rattle.reader_parts.specs.Names.{use_name}
 use Rattle.reader_constraints.specs.Constraints.{constant}
 use Rattle.reader_edges.specs.declared.AssignRead.{AssignRead}
 use Rattle.reader_edges.specs.declared.AssignsRead.{AssignsRead}
-use Rattle.reader_edges.specs.Assigns.{no_assignments, then_assigned, with_assignment, assign_next, assign_items, assigns as assigns-next}
+use Rattle.reader_edges.specs.Assigns.{no_assignments, then_assigned, with_assignment, assign_next, assign_items, assigns as assigns_next}
 use Rattle.reader_edges.specs.Progress.{items_more, items_last}
 use Rattle.reader_formed.proofs.Cases.{when_equal, blank}
 use Rattle.written.specs.Spaced.{Tokens, later_items, part_tokens}
@@ -194,8 +194,8 @@ module _ {s : List ℕ} {names : List Name} {clocks : ℕ} (u : ℕ)
       → {ws : Tokens} {st : Status}
       → BeforeTokens s
       (part_tokens (bytes "assign" ∷ []) (bytes ",") (bytes ";") (map (assignment_tokens u all) xs) ++ (w ∷ ws)) st
-      → AssignmentsAre s (w ∷ ws) (with_clocks all no_assignments xs) (assigns-next shortest_tick s st names)
-  unfolding part_tokens assigns-next with_clocks
+      → AssignmentsAre s (w ∷ ws) (with_clocks all no_assignments xs) (assigns_next shortest_tick s st names)
+  unfolding part_tokens assigns_next with_clocks
   assign_part [] h f apart b = rw (ahead_is f kinds.assign b, apart) (record { before = b; is = refl })
   assign_part (x ∷ xs) h f apart b =
       rw (ahead_is assign_fine kinds.assign b)
@@ -203,11 +203,11 @@ module _ {s : List ℕ} {names : List Name} {clocks : ℕ} (u : ℕ)
 
   pub assignments_read : {w : List ℕ} {j : ℕ} → Fine w j → eqb j kinds.assign ≡ false
       → {ws : Tokens} {st : Status} → BeforeTokens s (assignments_tokens u clocks all ++ (w ∷ ws)) st
-      → AssignmentsRead s (w ∷ ws) clocks all (assigns-next shortest_tick s st names)
+      → AssignmentsRead s (w ∷ ws) clocks all (assigns_next shortest_tick s st names)
   unfolding assignments_tokens no_assignments
   assignments_read {w} {j} f apart {ws} {st} b =
       let r : AssignmentsAre s (w ∷ ws) (with_clocks all no_assignments (assigned_clocks all 0 clocks))
-      (assigns-next shortest_tick s st names) =
+      (assigns_next shortest_tick s st names) =
       assign_part (assigned_clocks all 0 clocks) (clocks_below all 0 clocks clocks (omega arith)) f apart b in
       let q : Assigned all 0 clocks no_assignments (with_clocks all no_assignments (assigned_clocks all 0 clocks)) =
       assigned_again all 0 clocks no_assignments (omega arith) in

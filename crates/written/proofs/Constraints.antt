@@ -27,7 +27,7 @@ use Rattle.reader_constraints.specs.declared.Amount.{Amount}
 use Rattle.reader_constraints.specs.declared.SignRead.{SignRead}
 use Rattle.reader_constraints.specs.declared.ComparisonRead.{ComparisonRead}
 use Rattle.reader_constraints.specs.declared.ConstraintRead.{ConstraintRead}
-use Rattle.reader_constraints.specs.Constraints.{least_after, least_constant, constant_of, constant as constant-next, sign_of, sign_next, comparison_next, blank_constraint, with_comparison, constraint_from, constraint, optional, guard, invariant}
+use Rattle.reader_constraints.specs.Constraints.{least_after, least_constant, constant_of, constant as constant_next, sign_of, sign_next, comparison_next, blank_constraint, with_comparison, constraint_from, constraint, optional, guard, invariant}
 use Rattle.reader_constraints.proofs.Ticks.{one_millisecond}
 use Rattle.reader_formed.proofs.Cases.{stored}
 use Rattle.written.specs.Spaced.{Tokens, after_token, later_items, part_tokens, numbered_items}
@@ -49,8 +49,8 @@ pub record AmountReads (s : List ℕ) (ws : Tokens) (n : ℕ) (a : Amount) : Typ
 
 pub constant_read :
     {s : List ℕ} {n : ℕ} {ws : Tokens} {st : Status} (least : ℕ) → least ≤ n → n ≤ largest_constant
-    → BeforeTokens s (decimal n ∷ ws) st → AmountReads s ws n (constant-next shortest_tick least s st)
-unfolding constant-next constant_of
+    → BeforeTokens s (decimal n ∷ ws) st → AmountReads s ws n (constant_next shortest_tick least s st)
+unfolding constant_next constant_of
 constant_read {s} {n} {ws} least l h (at {p} a) =
     let t : Stands s p (decimal n) kinds.numeral ws = token_stands (decimal_fine n) a in
     let g : Gapped (after_token ws) = gapped ws in
@@ -145,7 +145,7 @@ module _ {s : List ℕ} {names : List Name} {clocks : ℕ} (u : ℕ)
       let g : SignReads s (decimal x.bound ∷ ws) x.sign (sign_next s used_clock.status inv) =
       sign_read inv x.sign x.bound a c.before in
       let n : AmountReads s ws x.bound
-      (constant-next shortest_tick (least_constant inv x.sign) s (sign_next s used_clock.status inv).status) =
+      (constant_next shortest_tick (least_constant inv x.sign) s (sign_next s used_clock.status inv).status) =
       constant_read (least_constant inv x.sign) (least_allowed inv x.sign x.bound a) l g.before in
       rw g.is (record { before = n.before; is = rw (c.number_is, n.is) })
 

@@ -17,7 +17,7 @@ use Rattle.reader_parts.specs.Names.{use_name}
 use Rattle.reader_constraints.specs.Constraints.{guard}
 use Rattle.reader_edges.specs.declared.EdgeRead.{EdgeRead}
 use Rattle.reader_edges.specs.Labels.{fits, label_next}
-use Rattle.reader_edges.specs.Assigns.{assigns as assigns-next}
+use Rattle.reader_edges.specs.Assigns.{assigns as assigns_next}
 use Rattle.reader_edges.specs.Edges.{edge_next}
 use Rattle.written.specs.Spaced.{Tokens}
 use Rattle.written.specs.Written.{clock_called, location_called, constraint_tokens, label_tokens, assignments_tokens, edge_tokens}
@@ -87,7 +87,7 @@ edge_tokens_read {s} {names} words u {channels} {clocks} {locations} known e for
     formed.declared uses right
     guarded.before in
     let assigned : AssignmentsRead s (bytes "}" ∷ ws) clocks e.assignments
-    (assigns-next shortest_tick s
+    (assigns_next shortest_tick s
     (label_next s (guard shortest_tick s open_brace names).status names uses).status names) =
     assignments_read u known.clock_names known.few_clocks e.assignments formed.allowed closes_fine refl
     named.before in

@@ -137,14 +137,14 @@ module _ {s : List ℕ} {full : ℕ → List ℕ} {done : ℕ → Bool} {names :
 
     pub in_slot : k < name_slots → done k ≡ true → slot_of s names n ≡ k
     unfolding slot_of past differs alike
-    in_slot h in-it =
+    in_slot h in_it =
         rw (run_at (differs s n) no_name names k (omega (arith, t.size)) here
         (λ j l. other j (omega arith) (λ e. absurd (omega arith))))
         (omega arith)
       where
         here : differs s n (get_or names k no_name) ≡ false
         here =
-            let z : Spells s (get_or names k no_name) (full k) = rw in-it at (t.each k h) in
+            let z : Spells s (get_or names k no_name) (full k) = rw in_it at (t.each k h) in
             rw (same_passes z y refl)
 
 -- a name is declared in slot k

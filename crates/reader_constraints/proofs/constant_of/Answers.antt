@@ -53,12 +53,12 @@ returns c =
     let in-call = c.in_ticks-v in
     let start = c.before.before.before.before.before.before.before in
     let ticks = in-call.ensures ∙ ap (in_ticks _) c.number_at-n.ensures in
-    let allowed : in-call.result ≤ largest_constant = c.if-v-gt-LARGEST_CONSTANT.false in
+    let fits : in-call.result ≤ largest_constant = c.if-v-gt-LARGEST_CONSTANT.false in
     let enough : start.args.least ≤ in-call.result = c.if-v-least.false in
-    let value = ticks ∙ unclamped_ticks _ start.requires _ (rw ticks at allowed) in
+    let value = ticks ∙ unclamped_ticks _ start.requires _ (rw ticks at fits) in
     rw (
       eq-eqb _ _ c.if-t-ne-NUMERAL.false,
       sym value,
-      le-ltb largest_constant _ allowed,
+      le-ltb largest_constant _ fits,
       le-ltb _ _ enough,
     )

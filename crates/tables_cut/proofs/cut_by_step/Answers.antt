@@ -98,11 +98,11 @@ pub slice_bounds-target-end : goal.slice_bounds-target-end
 slice_bounds-target-end c =
     let z = c.before.before.before.before.before.before.before.before.before.before.before in
     let given = z.requires.0 in
-    let u = target given.left z.args.s z.args.c z.requires.1.0 z.requires.1.1.0 c.if-u-eq-NO_TARGET.false in
+    let reaches = target given.left z.args.s z.args.c z.requires.1.0 z.requires.1.1.0 c.if-u-eq-NO_TARGET.false in
     omega (
       arith,
       row_inside z.args.sides.left_states z.args.sides.right_states _ c.bytes_for-b.result
-          c.bytes_for-b.ensures u,
+          c.bytes_for-b.ensures reaches,
       z.requires.1.1.1.0,
     )
 

@@ -114,11 +114,11 @@ returns c =
     let loop = c.loop-c in
     let test = c.loop-c-test in
     let safe = c.get in
-    let if1 = c.if-not-get in
+    let kept = c.if-not-get in
     let lost = c.row_lost-lost in
     let w = args.sides.right_states in
     let e : loop.c ≡ args.sides.steps = omega (arith, loop.invariant.0, test.false) in (
-      row_cut pre.1.1.1.1.0 (sym safe.ensures ∙ if1.false)
+      row_cut pre.1.1.1.1.0 (sym safe.ensures ∙ kept.false)
           (subst (λ (x : ℕ). Cuts w (bit_at args.holds.now) (λ (y : ℕ). ⊥)
           (passes args.lm.now args.masks.now w args.sides.steps args.s) x loop.row) e loop.invariant.1.1),
       omega (arith, lost.ensures, pre.1.1.1.1.1.1.1),

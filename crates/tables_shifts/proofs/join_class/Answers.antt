@@ -64,7 +64,7 @@ or_bytes-requires c = let class-number = c.class_number-first in
     (omega arith, (omega arith, omega arith))
 
 pub returns : goal.returns
-returns c = let or_Bytes = c.or_bytes in
+returns c = let or_done = c.or_bytes in
     let and-range = c.and_range in
     let copy-mask = c.copy_mask in
     let args = c.before.before.before.before.before.before.before.before.before.before.before.before.before.before.before.before.before.before.before.before.before.before.before.before.args in
@@ -74,12 +74,12 @@ returns c = let or_Bytes = c.or_bytes in
     let mask_at = c.mask_at in
     let bytes_for = c.bytes_for-to in
     let pre = c.before.before.before.before.before.before.before.before.before.before.before.before.before.before.before.before.before.before.before.before.before.before.before.before.requires in (
-      or_Bytes.ensures.only.sized,
+      or_done.ensures.only.sized,
       (
         and-range.ensures.sized ∙ copy-mask.ensures.only.sized,
         join_bit args.source.now pre.1.1.1.1.1.0 pre.0 class-number.ensures.0
             class-number2.ensures.0 class-number3.ensures.0
             (rw (mask_at.ensures, bytes_for.ensures) at copy-mask.ensures) and-range.ensures (rw
-            bytes_for.ensures at or_Bytes.ensures),
+            bytes_for.ensures at or_done.ensures),
       ),
     )

@@ -94,8 +94,8 @@ returns c =
     let bytes = c.bytes_for-b in
     let copied = c.copy in
     let lost = c.row_lost-lost in
-    let if1 = c.if-lost-eq0 in
+    let some = c.if-lost-eq0 in
     let same = part_between args.w args.s bytes.result args.raster.now bytes.ensures in
     back_stored args.w args.s args.row.now args.raster.now pre.1.1.1.1.1 args.n
     bytes.result copied.new.s lost.result bytes.ensures copied.ensures pre.1.1.1.0
-    pre.1.1.0 if1.false (lost.ensures ∙ ap (λ (x : List ℕ). passing (bit_at x) args.w) same)
+    pre.1.1.0 some.false (lost.ensures ∙ ap (λ (x : List ℕ). passing (bit_at x) args.w) same)

@@ -49,6 +49,7 @@ returns-in-Refused c =
 pub returns-in-Accepted : goal.returns-in-Accepted
 returns-in-Accepted c =
     let judges = c.judge-l in
+    let fits = c.if-left-gt-LARGEST_TEXT.false in
     both_read _ c.args.left.now c.args.right.now (sym c.is_tick_length.ensures ∙ c.if-not-is_tick_length.false)
-    c.if-left-gt-LARGEST_TEXT.false c.if-right-gt-LARGEST_TEXT.false _ c.requires.0.left_text _ _ judges.result _ _
+    fits c.if-right-gt-LARGEST_TEXT.false _ c.requires.0.left_text _ _ judges.result _ _
     judges.ensures _ _ _ c.in-Accepted.is c.requires.1.left c.load_right.ensures

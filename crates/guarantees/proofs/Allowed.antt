@@ -1,4 +1,4 @@
--- Tick lengths are as Lengths.antt asks: 24 is judged first, and no later judgement gives it.
+-- Tick lengths are as specs/Lengths.antt asks: 24 is judged first, and no later judgement gives it.
 use Rattle.std.specs.Prelude.{◌≡◌, Bool, not, ◌||◌, List, eqb, length, drop}
 use Rattle.std.proofs.Math.Path.{refl, ap}
 use Rattle.std.proofs.Common.{sym, subst, ◌∙◌, arith}
@@ -50,7 +50,7 @@ use Rattle.joining.specs.Outcome as joining
 use Rattle.joining.specs.Outcome.{within_limits, laid_text, record_outcome, joined_record, joined_bytes, join_outcome}
 use Rattle.demands.specs.Words.{Without, search_refusal, check_refusal, widest_refusal}
 use Rattle.guarantees.specs.Texts.{safe_refusal, join_refusal}
-use Rattle.guarantees.specs.Setting.{tick_is_allowed}
+use Rattle.guarantees.proofs.Setting.{tick_is_allowed}
 use Rattle.guarantees.specs.Lengths.{TicksDemand, LengthRefused, LengthPassed, LengthDemand}
 
 pub ticks_promised : TicksDemand

@@ -1,4 +1,4 @@
--- The comparisons of a well-formed record are as Comparisons.antt asks, by the laws of the signs.
+-- The comparisons of a well-formed record are as specs/Comparisons.antt asks, by the laws of the signs.
 use Rattle.std.specs.Prelude.{◌≡◌, refl, ◌↔◌, ◌⊎◌, ℕ, ◌≤◌, ◌<◌, T}
 use Rattle.std.proofs.Common.{subst, inl, inr, ltb→lt}
 use Rattle.reader_record.specs.declared.Sign.{Sign}

@@ -30,7 +30,7 @@ use Rattle.demands.proofs.Same.{same_safe}
 use Rattle.demands.proofs.Kept.{packed_byte, safe_length, keeps}
 use Rattle.guarantees.specs.Texts.{AcceptedText, states, meaning, number, safe_refusal}
 use Rattle.guarantees.specs.Demands.{SafeDemand}
-use Rattle.guarantees.specs.Setting.{states_are, one_capping, numbered_states, numbered_number}
+use Rattle.guarantees.proofs.Setting.{states_are, one_capping, numbered_states, numbered_number}
 
 kept_long : (t : Text) (keep : List ℕ) (b : Bool) → ltb (length keep) (bytes_for (state_count t)) ≡ b
     → LongEnough (safe_refusal (kept_outcome t keep).answer) → ltb (length keep) (bytes_for (state_count t)) ≡ false

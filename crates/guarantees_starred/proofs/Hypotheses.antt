@@ -30,8 +30,8 @@ use Rattle.demands.specs.Words.{Consistent, LongEnough, search_refusal, check_re
 use Rattle.guarantees.specs.Texts.{AcceptedText, states, meaning, number, EqualChannels}
 use Rattle.guarantees.specs.Lengths.{LengthRefused}
 use Rattle.guarantees.specs.Parallel.{record_of, StatesJudged}
-use Rattle.guarantees.specs.Guarantees.{lengths_judged, implementation_exactly, parallel_exactly, assignments_mean}
-use Rattle.guarantees.specs.Setting.{left_capping, Left}
+use Rattle.guarantees.proofs.Guarantees.{lengths_judged, implementation_exactly, parallel_exactly, assignments_mean}
+use Rattle.guarantees.proofs.Setting.{left_capping, Left}
 use Rattle.guarantees_starred.proofs.Opened.{opened_states}
 use Rattle.guarantees_starred.proofs.Posts.{read_known, post_keep, post_known, strict_known, twice_known}
 use Rattle.guarantees_starred.proofs.Runs.{post_post_equal, strict_post_equal, twice_post_equal}

@@ -25,7 +25,7 @@ use Rattle.implementation_check.proofs.Codes.{last_code, CodeAt, too_late, readi
 use Rattle.demands.proofs.Same.{same_safe}
 use Rattle.guarantees.specs.Texts.{AcceptedText, meaning, number}
 use Rattle.guarantees.specs.Implementations.{ImplementationDemand}
-use Rattle.guarantees.specs.Setting.{one_capping, numbered_number}
+use Rattle.guarantees.proofs.Setting.{one_capping, numbered_number}
 
 -- the answer names the finding: what is found can be told from it
 told : Verdict → Finding

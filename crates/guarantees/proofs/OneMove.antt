@@ -1,4 +1,4 @@
--- Codes 10 and 11 and parallel edges are as Parallel.antt asks, by the laws of crate clocks.
+-- Codes 10 and 11 and parallel edges are as specs/Parallel.antt asks, by the laws of crate clocks.
 use Rattle.std.specs.Prelude.{◌≡◌, cond, List, ℕ, ◌<◌, eqb}
 use Rattle.std.proofs.Math.Path.{refl, subst, ap}
 use Rattle.std.proofs.Common.{sym, ◌∙◌, arith}

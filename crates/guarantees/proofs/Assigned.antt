@@ -1,4 +1,4 @@
--- The assignments of an accepted text are as Assignments.antt asks, by the laws of crate clocks.
+-- The assignments of an accepted text are as specs/Assignments.antt asks, by the laws of crate clocks.
 use Rattle.std.specs.Prelude.{◌≡◌, true, ℕ, ◌<◌, T}
 use Rattle.std.proofs.Common.{sym, ap, ◌∙◌, arith}
 use Rattle.reader_record.specs.declared.Text.{Text}

@@ -1,4 +1,4 @@
--- Joining two texts is as Joining.antt asks.
+-- Joining two texts is as specs/Joining.antt asks.
 use Rattle.std.specs.Prelude.{◌≡◌, Bool, true, false, ◌&&◌, cond, List, ◌++◌, ℕ, ◌≤◌, ◌<◌, T, leb, ltb, take, drop}
 use Rattle.std.proofs.Math.Path.{refl, sym, ap, subst}
 use Rattle.std.proofs.Common.{◌∙◌, arith, leb→le, le→leb, ltb-true, ltb-false}
@@ -26,7 +26,7 @@ use Rattle.joining.specs.declared.JoinAnswer.{JoinAnswer}
 use Rattle.joining.specs.declared.JoinAnswer.TheVariants.{Written, Refused}
 use Rattle.joining.specs.Outcome.{Outcome, refused, within_limits, laid_text, record_outcome, joined_record, joined_bytes, join_outcome}
 use Rattle.guarantees.specs.Texts.{AcceptedText}
-use Rattle.guarantees.specs.Allowed.{two_codes}
+use Rattle.guarantees.proofs.Allowed.{two_codes}
 use Rattle.guarantees.specs.Joining.{Within, Joins, Joinable, JoinDemand}
 
 -- the test of the limits is what Within says

@@ -1,11 +1,11 @@
 -- THE GUARANTEES, to be read first. The demands (SPECIFICATION 17.1 to 17.3) as theorems about the operations' own
--- outcomes (read-outcome, safe-outcome, search-outcome, check-outcome, widest-outcome, implementation-outcome,
--- join-outcome), which the contracts of the operations equate with what the code answers and leaves in the lent slices.
--- The words are defined in Texts.antt and, for systems, in crate systems, Definitions.antt, in crate reachable,
+-- outcomes (read_outcome, safe_outcome, search_outcome, check_outcome, widest_outcome, implementation_outcome,
+-- join_outcome), which the contracts of the operations equate with what the code answers and leaves in the lent slices.
+-- The words are defined in specs/Texts.antt and, for systems, in crate systems, Definitions.antt, in crate reachable,
 -- Meaning.antt, and in crate demands, Words.antt; what each demand asks, clause by clause, is a record or a type of cases
--- in crate demands, Demands.antt and Answers.antt, and in Demands.antt, Implementations.antt, Lengths.antt, Parallel.antt,
--- Assignments.antt and Joining.antt here. The other files of this crate are laws: the operations on two texts are instances of those on
--- two systems.
+-- in crate demands, Demands.antt and Answers.antt, and in specs/ here, Demands.antt, Implementations.antt, Lengths.antt,
+-- Parallel.antt, Assignments.antt and Joining.antt. The other files of proofs/ are laws: the operations on two texts are
+-- instances of those on two systems.
 use Rattle.std.specs.Prelude.{◌≡◌, ◌↔◌, List, ℕ}
 use Rattle.std.proofs.Common.{subst}
 use Rattle.std.proofs.Math.Option.{none, some}
@@ -17,7 +17,7 @@ use Rattle.two_texts.specs.Two.{text_of, two_judged}
 use Rattle.two_texts.proofs.Laws.{judged_none, channels_equal, judged_by_some}
 use Rattle.safe_states.specs.Outcome.{safe_outcome}
 use Rattle.implementation_check.specs.Outcome.{implementation_outcome}
-use Rattle.search.specs.declared.SearchAnswer.TheVariants as search-answer
+use Rattle.search.specs.declared.SearchAnswer.TheVariants as search_answer
 use Rattle.search.specs.Outcome as search
 use Rattle.two_operations.specs.Outcome.{search_outcome, check_outcome, widest_outcome}
 use Rattle.joining.specs.declared.JoinAnswer.TheVariants as joined
@@ -33,19 +33,19 @@ use Rattle.demands.specs.Answers.{SearchAnswers, CheckAnswers, WidestAnswers}
 use Rattle.guarantees.specs.Texts.{AcceptedText, states, meaning, number, right_meaning, right_number, EqualChannels, safe_refusal}
 use Rattle.guarantees.specs.Demands.{SafeDemand}
 use Rattle.guarantees.specs.Comparisons.{ComparisonsDemand}
-use Rattle.guarantees.specs.Compared.{comparisons_promised}
+use Rattle.guarantees.proofs.Compared.{comparisons_promised}
 use Rattle.guarantees.specs.Implementations.{ImplementationDemand}
-use Rattle.guarantees.specs.Implemented.{implementation_promised}
+use Rattle.guarantees.proofs.Implemented.{implementation_promised}
 use Rattle.guarantees.specs.Lengths.{TicksDemand, LengthDemand}
-use Rattle.guarantees.specs.Allowed.{ticks_promised, length_promised}
+use Rattle.guarantees.proofs.Allowed.{ticks_promised, length_promised}
 use Rattle.guarantees.specs.Parallel.{ParallelDemand}
-use Rattle.guarantees.specs.OneMove.{parallel_promised}
+use Rattle.guarantees.proofs.OneMove.{parallel_promised}
 use Rattle.guarantees.specs.Assignments.{AssignmentsDemand}
-use Rattle.guarantees.specs.Assigned.{assignments_promised}
+use Rattle.guarantees.proofs.Assigned.{assignments_promised}
 use Rattle.guarantees.specs.Joining.{JoinDemand}
-use Rattle.guarantees.specs.Joins.{join_promised}
-use Rattle.guarantees.specs.Counted as counted
-use Rattle.guarantees.specs.Setting.{nothing_found, one_capping, left_capping, right_capping, by_texts, form_sizes, search_is, check_is, widest_is}
+use Rattle.guarantees.proofs.Joins.{join_promised}
+use Rattle.guarantees.proofs.Counted as counted
+use Rattle.guarantees.proofs.Setting.{nothing_found, one_capping, left_capping, right_capping, by_texts, form_sizes, search_is, check_is, widest_is}
 
 -- How many ticks a constant comes to: the nearest whole number, an exact half upward, and itself at tick length 1, so
 -- that what holds at every tick length holds of texts in ticks (SPECIFICATION 4.7, 17.9).
@@ -110,7 +110,7 @@ module _ (period : ℕ) where
   pub search_judged : (left right keep : List ℕ) (back line : ℕ) (run : List ℕ) (r : Refusal)
       → two_judged period left right ≡ some r
       → search_outcome period left right keep back line run
-      ≡ record { answer = search-answer.Refused r; keep = keep; run = run }
+      ≡ record { answer = search_answer.Refused r; keep = keep; run = run }
   unfolding search_outcome
   search_judged left right keep back line run r e = judged_by_some (two_judged period left right) _ _ r e
 

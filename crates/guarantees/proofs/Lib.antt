@@ -1,0 +1,9 @@
+pub mod Guarantees
+pub mod Setting
+pub mod Counted
+pub mod Compared
+pub mod Implemented
+pub mod Allowed
+pub mod OneMove
+pub mod Assigned
+pub mod Joins
