@@ -8,28 +8,28 @@ use limits::{CHANNEL_LIMIT, CLOCK_LIMIT, COMPARISON_LIMIT, EDGE_LIMIT, LOCATION_
 
 // A name, by the bytes of its declaration (SPECIFICATION 5.2). Names are kept in a table that is passed by value: so a
 // name is in four bytes, which the limits on the bytes of a text and of a name allow.
-#[derive(Clone, Copy)]
+#[derive(Clone, Copy, PartialEq, Eq)]
 pub struct Name {
     pub place: u16,
     pub len: u8,
 }
 
 // How the edges use a channel (SPECIFICATION 5.1). `Unused` counts as an output (SPECIFICATION 3.6).
-#[derive(Clone, Copy)]
+#[derive(Clone, Copy, PartialEq, Eq)]
 pub enum Direction {
     Unused,
     Input,
     Output,
 }
 
-#[derive(Clone, Copy)]
+#[derive(Clone, Copy, PartialEq, Eq)]
 pub struct Channel {
     pub name: Name,
     pub direction: Direction,
 }
 
 // The sign of a comparison (SPECIFICATION 3.1): `<=`, `>=`, `==`, `<` or `>`.
-#[derive(Clone, Copy)]
+#[derive(Clone, Copy, PartialEq, Eq)]
 pub enum Sign {
     AtMost,
     AtLeast,
@@ -40,7 +40,7 @@ pub enum Sign {
 
 // A clock, by its number from 0, a sign and a constant in ticks (SPECIFICATION 5.3). A record is passed by value and
 // holds hundreds of comparisons, constraints and edges: their numbers are in the narrowest types that the limits allow.
-#[derive(Clone, Copy)]
+#[derive(Clone, Copy, PartialEq, Eq)]
 pub struct Comparison {
     pub clock: u8,
     pub sign: Sign,
@@ -48,20 +48,20 @@ pub struct Comparison {
 }
 
 // A guard or an invariant: all of the first `count` comparisons (SPECIFICATION 6.2).
-#[derive(Clone, Copy)]
+#[derive(Clone, Copy, PartialEq, Eq)]
 pub struct Constraint {
     pub comparisons: [Comparison; COMPARISON_LIMIT],
     pub count: u8,
 }
 
-#[derive(Clone, Copy)]
+#[derive(Clone, Copy, PartialEq, Eq)]
 pub struct Location {
     pub name: Name,
     pub invariant: Constraint,
 }
 
 // The label of an edge: an input or an output, with the channel's number from 1 (SPECIFICATION 5.3).
-#[derive(Clone, Copy)]
+#[derive(Clone, Copy, PartialEq, Eq)]
 pub enum Label {
     Input(u8),
     Output(u8),
@@ -69,7 +69,7 @@ pub enum Label {
 
 // What an edge does to a clock (SPECIFICATION 5.4): whether it assigns the clock, the value that it assigns, which is
 // that of the last assignment, and the largest value that is written, in ticks.
-#[derive(Clone, Copy)]
+#[derive(Clone, Copy, PartialEq, Eq)]
 pub struct Assignment {
     pub made: bool,
     pub value: u16,
@@ -89,7 +89,7 @@ pub fn no_assignment() -> Assignment
 
 // An edge (SPECIFICATION 5.1). Source and target are locations by their number from 0; `assignments` has one for each
 // clock.
-#[derive(Clone, Copy)]
+#[derive(Clone, Copy, PartialEq, Eq)]
 pub struct Edge {
     pub source: u8,
     pub target: u8,
@@ -100,7 +100,7 @@ pub struct Edge {
 
 // The whole record (SPECIFICATION 5.1). The first `.._count` items of each list are those of the text, in its order
 // (SPECIFICATION 4.4); the rest is filling.
-#[derive(Clone, Copy)]
+#[derive(Clone, Copy, PartialEq, Eq)]
 pub struct Text {
     pub channels: [Channel; CHANNEL_LIMIT],
     pub channel_count: usize,
