@@ -1,11 +1,10 @@
 -- Reading a text: a definition for each part of the grammar's `text` (SPECIFICATION 3.1), first of those that have
 -- names alone, then of the lists, which go by the tick length, in the grammar's order; and the answer, the record
 -- (SPECIFICATION 5.1), code 24 (SPECIFICATION 4.7) or one of the codes 1 to 8 (SPECIFICATION 4.5, 4.6).
-use Rattle.std.specs.Prelude.{false, cond, List, ℕ, ltb, length, replicate}
+use Rattle.std.specs.Prelude.{false, cond, List, ℕ, ltb, length, replicate, Result, Ok, Err}
 use Rattle.reader_tokens.specs.Kinds as kinds
 use Rattle.reader_record.specs.Record.{no_name}
 use Rattle.reader_record.specs.declared.Text.{Text}
-use Rattle.reader_parts.specs.declared.Fault.{Fault}
 use Rattle.reader_parts.specs.declared.Fault.TheVariants.{TooLong}
 use Rattle.reader_parts.specs.declared.Status.{Status}
 use Rattle.reader_parts.specs.declared.Status.TheVariants as status
@@ -19,9 +18,7 @@ use Rattle.reader_lists.specs.State.{no_text, next_token, with_init}
 use Rattle.reader_lists.specs.Lists.{stopped, items}
 use Rattle.reader.specs.Faults.{refusal_of}
 use Rattle.refusals.specs.declared.Refusal.{Refusal}
-use Rattle.refusals.specs.Refusals.{tick_out_of_range}
-use Rattle.refusals.specs.declared.Verdict.TheVariants.{Accepted, Refused}
-use Rattle.reader.specs.declared.Parsed.{Parsed}
+use Rattle.refusals.specs.declared.Refusal.TheVariants.{TickOutOfRange}
 use Rattle.limits.specs.Limits.{location_limit, largest_text, tick_allowed}
 
 -- nothing is read and nothing is declared
@@ -51,16 +48,15 @@ end_part s r =
     let u = use_name s a.status a.names process_slot process_limit false in
     next_token s (next_token s (stopped a u.status) kinds.semicolon) kinds.end
 
--- a refused text has no record: the one beside the refusal is fixed
-abbrev pub refused_by : Refusal → Parsed
-refused_by r = record { answer = Refused r; text = no_text }
+-- the record where every part fits, else the refusal
+unfoldable pub answer : Status → Text → Result Text Refusal
+answer (status.At p) t = Ok t
+answer (status.Refused f) t = Err (refusal_of f)
 
-unfoldable pub refused : Fault → Parsed
-refused f = refused_by (refusal_of f)
-
-unfoldable pub answer : Status → Text → Parsed
-answer (status.At p) t = record { answer = Accepted; text = t }
-answer (status.Refused f) t = refused f
+-- the record that a text was read into; a refused text has none, and a fixed one stands for it
+abbrev pub record_of : Result Text Refusal → Text
+record_of (Ok t) = t
+record_of (Err f) = no_text
 
 -- at one tick length, `period` (SPECIFICATION 4.7)
 module _ (period : ℕ) where
@@ -94,9 +90,9 @@ module _ (period : ℕ) where
       end_part s (edge_part s (init_part s (location_part s (clock_part s (process_part s (channel_part s start))))))
 
   -- the answer to a text: code 24 is judged first, then code 1 (SPECIFICATION 4.5, 13.4)
-  unfoldable pub read_text : List ℕ → Parsed
+  unfoldable pub read_text : List ℕ → Result Text Refusal
   read_text s =
       let r = read_whole s in
       let read = answer r.status r.text in
-      cond (tick_allowed period) (cond (ltb largest_text (length s)) (refused TooLong) read)
-      (refused_by (tick_out_of_range period))
+      cond (tick_allowed period) (cond (ltb largest_text (length s)) (Err (refusal_of TooLong)) read)
+      (Err (TickOutOfRange period))

@@ -6,7 +6,7 @@ ghost use Rattle.std.specs.Prelude.{◌≡◌, false, ◌≤◌, ◌<◌, length
 ghost use Rattle.reader_lists.specs.Turns.{item, state_of};
 ghost use Rattle.reader_lists.specs.Heads.{no_edges, before_edges, with_rest, ReadsHead, ReadsEdges};
 ghost use Rattle.reader.specs.Reading.{start, channel_part, process_part, clock_part, location_part, init_part};
-ghost use Rattle.reader.specs.Reading.{edge_part, end_part, read_whole, refused_by, refused, answer, read_text};
+ghost use Rattle.reader.specs.Reading.{edge_part, end_part, read_whole, answer, read_text};
 ghost use Rattle.reader.specs.Parts.{list_past, started, read_head, ReadsAny};
 ghost use Rattle.reader.specs.Faults.{refusal_of};
 ghost use Rattle.limits.specs.Limits.{TickLength, largest_text};
@@ -17,14 +17,7 @@ use reader_parts::{
     Declaration, FIRST_LOCATION, Fault, NAME_SLOTS, PROCESS_LIMIT, PROCESS_SLOT, Status, Use,
 };
 use reader_record::{Channel, Name, Text};
-use refusals::{Refusal, Verdict};
-
-// The answer, and the record of the text where it is accepted.
-#[derive(Clone, Copy)]
-pub struct Parsed {
-    pub answer: Verdict,
-    pub text: Text,
-}
+use refusals::{File, Refusal};
 
 // Nothing is read and nothing is declared.
 fn start() -> HeadRead
@@ -181,90 +174,67 @@ fn end_part(s: &[u8], st: Status, names: [Name; NAME_SLOTS]) -> Status
     reader_parts::take(s, d, reader_tokens::END)
 }
 
-// The refusal for each reason to refuse a text (SPECIFICATION 13.1).
+// The refusal for each reason to refuse a text (SPECIFICATION 13.1), which is taken for the left or only one.
+#[tactic(auto, unfolding(crate::specs::Faults::refusal_of))]
 fn refusal_of(f: Fault) -> Refusal
     ensures { result ≡ refusal_of f }
 {
     match f {
-        Fault::TooLong => Refusal::text_too_long(),
-        Fault::Misfit(p) => Refusal::misfit(p),
-        Fault::NameTooLong(p) => Refusal::name_too_long(p),
-        Fault::Declared(p) => Refusal::declared_before(p),
-        Fault::Unknown(p) => Refusal::unknown_name(p),
-        Fault::TooLarge(p) => Refusal::constant_too_large(p),
-        Fault::TooManyItems(p) => Refusal::too_many_items(p),
-        Fault::OtherMark(p) => Refusal::other_mark(p),
+        Fault::TooLong => Refusal::TextTooLong(File::Left),
+        Fault::Misfit(p) => Refusal::Misfit(File::Left, p),
+        Fault::NameTooLong(p) => Refusal::NameTooLong(File::Left, p),
+        Fault::Declared(p) => Refusal::DeclaredBefore(File::Left, p),
+        Fault::Unknown(p) => Refusal::UnknownName(File::Left, p),
+        Fault::TooLarge(p) => Refusal::ConstantTooLarge(File::Left, p),
+        Fault::TooManyItems(p) => Refusal::TooManyItems(File::Left, p),
+        Fault::OtherMark(p) => Refusal::OtherMark(File::Left, p),
     }
 }
 
-// A refused text has no record: the one beside the refusal is fixed.
-fn refused_by(why: Refusal) -> Parsed
-    ensures { result ≡ refused_by why }
-{
-    let answer = Verdict::Refused(why);
-    let text = reader_lists::no_text();
-    Parsed { answer, text }
-}
-
-fn refused(f: Fault) -> Parsed
-    ensures { result ≡ refused f }
-{
-    let why = refusal_of(f);
-    refused_by(why)
-}
-
 // The parts in their order, and the record put together where all of them fit.
-fn read_whole(period: usize, s: &[u8]) -> Parsed
+fn read_whole(period: usize, s: &[u8]) -> Result<Text, Refusal>
     requires { TickLength period × (length s.now ≤ largest_text) }
     ensures { result ≡ answer (read_whole period s.now).status
         (read_whole period s.now).text }
 {
     let r = read_head(period, s);
-    let st = r.status;
-    let names = r.names;
-    let i = init_part(s, st, names);
     let h = r.head;
+    let names = r.names;
+    let i = init_part(s, r.status, names);
     let given = h.channels;
-    let on = i.status;
-    let e = edge_part(period, s, on, names, given);
-    let came = e.status;
-    let end = end_part(s, came, names);
+    let e = edge_part(period, s, i.status, names, given);
+    let end = end_part(s, e.status, names);
     let channels = e.channels;
     let clocks = h.clocks;
     let locations = h.locations;
     let edges = e.edges;
     match end {
-        Status::Refused(f) => refused(f),
-        Status::At(_) => {
-            let text = Text {
-                channels: channels,
-                channel_count: h.channel_count,
-                clocks: clocks,
-                clock_count: h.clock_count,
-                locations: locations,
-                location_count: h.location_count,
-                init: i.number,
-                edges: edges,
-                edge_count: e.count,
-            };
-            let answer = Verdict::Accepted;
-            Parsed { answer, text }
-        }
+        Status::Refused(f) => Err(refusal_of(f)),
+        Status::At(_) => Ok(Text {
+            channels,
+            channel_count: h.channel_count,
+            clocks,
+            clock_count: h.clock_count,
+            locations,
+            location_count: h.location_count,
+            init: i.number,
+            edges,
+            edge_count: e.count,
+        }),
     }
 }
 
 // The record of the text at a tick length, or its refusal: the operation read (SPECIFICATION 12.1) as far as code 8.
 // Codes 9 to 11 are judged by the crates above, which know states and moves.
-pub fn parse(period: usize, text: &[u8]) -> Parsed
+#[tactic(auto, unfolding(crate::specs::Reading::read_text), using(limits::specs::Laws::allowed_length))]
+pub fn parse(period: usize, text: &[u8]) -> Result<Text, Refusal>
     ensures { result ≡ read_text period text.now }
 {
     if !limits::is_tick_length(period) {
-        let why = Refusal::tick_out_of_range(period);
-        return refused_by(why);
+        return Err(Refusal::TickOutOfRange(period));
     }
     if LARGEST_TEXT < text.len() {
-        let f = Fault::TooLong;
-        return refused(f);
+        return Err(refusal_of(Fault::TooLong));
     }
     read_whole(period, text)
 }

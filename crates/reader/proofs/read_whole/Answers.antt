@@ -1,5 +1,4 @@
 -- `read_whole` is the answer of `read_whole`: the head, the starting location and the edges are the record.
-use borrow.Author.Rules.{rules}
 use mathlib.Core.Path.{◌≡◌}
 use Rattle.reader_lists.specs.State.{with_init}
 use Rattle.reader_lists.specs.Turns.{state_of}
@@ -36,7 +35,7 @@ unfolding answer
 returns-in-Refused c = rw (
   all_parts (goal.at.returns-in-Refused c).After-end_part-end,
   c.in-Refused.is,
-  c.refused.ensures,
+  c.refusal_of.ensures,
 )
 
 pub returns-in-At : goal.returns-in-At
