@@ -32,25 +32,24 @@ module _ (s : List ℕ) (names : List Name) (first limit : ℕ) (over : Bool) wh
       by (Ok r) = small_of r
       by (Err e) = tt
 
+  not_over_of : (r : NameRead) → IfOk (use_of s names first limit over r) (λ _. over ≡ false)
+  unfolding use_of
+  not_over_of r = by (ltb (slot_of s names r.name) first) refl (leb (first + limit) (slot_of s names r.name)) refl over refl
+    where
+      by : (a : Bool) → ltb (slot_of s names r.name) first ≡ a → (b : Bool) → leb (first + limit) (slot_of s names r.name) ≡ b
+          → (o : Bool) → over ≡ o → IfOk (use_of s names first limit over r) (λ _. over ≡ false)
+      by true p b q o t = rw p tt
+      by false p true q o t = rw (p, q) tt
+      by false p false q true t = rw (p, q, t) tt
+      by false p false q false t = rw (p, q, t) refl
+
   -- no name is used where its item is one too many
   pub use_not_over : (p : ℕ) → IfOk (use_name s p names first limit over) (λ _. over ≡ false)
   unfolding use_name
   use_not_over p = by (name_next s p)
     where
-      of : (r : NameRead) → IfOk (use_of s names first limit over r) (λ _. over ≡ false)
-      unfolding use_of
-      of r = go (ltb (slot_of s names r.name) first) refl (leb (first + limit) (slot_of s names r.name)) refl over refl
-        where
-          go : (a : Bool) → ltb (slot_of s names r.name) first ≡ a
-              → (b : Bool) → leb (first + limit) (slot_of s names r.name) ≡ b
-              → (o : Bool) → over ≡ o → IfOk (use_of s names first limit over r) (λ _. over ≡ false)
-          go true p b q o t = rw p tt
-          go false p true q o t = rw (p, q) tt
-          go false p false q true t = rw (p, q, t) tt
-          go false p false q false t = rw (p, q, t) refl
-
       by : (a : Result NameRead Fault) → IfOk (a >>= use_of s names first limit over) (λ _. over ≡ false)
-      by (Ok r) = of r
+      by (Ok r) = not_over_of r
       by (Err e) = tt
 
 module _ (s : List ℕ) (names : List Name) (first number limit : ℕ) where

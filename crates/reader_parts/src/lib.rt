@@ -2,10 +2,10 @@
 // that it starts at, and answers what it read with the place behind it, or the first fault.
 #![tactic(auto)]
 
-ghost use Rattle.std.specs.Prelude.{◌≡◌, ◌+◌, ◌≤◌, length};
+ghost use Rattle.std.specs.Prelude.{◌≡◌, not, ◌+◌, ◌≤◌, length};
 ghost use Rattle.reader_parts.specs.Slots.{name_slots};
 ghost use Rattle.reader_parts.specs.Stages.{take, ahead, name_next};
-ghost use Rattle.reader_parts.specs.Names.{slot_of, declare, use_name};
+ghost use Rattle.reader_parts.specs.Names.{differs, slot_of, declare, use_name};
 ghost use Rattle.limits.specs.Limits.{largest_text};
 
 use limits::{CHANNEL_LIMIT, CLOCK_LIMIT, LARGEST_NAME, LOCATION_LIMIT};
@@ -86,15 +86,22 @@ pub fn name_next(s: &[u8], p: usize) -> Result<NameRead, Fault>
     Ok(NameRead { name, end: t.end })
 }
 
+// Whether the name n is spelled as w.
+#[tactic(auto, unfolding(crate::specs::Names::differs))]
+fn is_spelled_as(s: &[u8], n: Name, w: Name) -> bool
+    ensures { differs s.now w n ≡ not result }
+{
+    let (at, place) = (n.place as usize, w.place as usize);
+    reader_tokens::is_same(s, at, n.len as usize, s, place, w.len as usize)
+}
+
 // The slot of a declared name, NAME_SLOTS where it is not declared.
-#[tactic(auto, using(reader_tokens::proofs::Scan::past_yes, reader_tokens::proofs::Scan::past_no, reader_tokens::proofs::Scan::past_end), unfolding(crate::specs::Names::slot_of, crate::specs::Names::differs))]
+#[tactic(auto, using(reader_tokens::proofs::Scan::past_yes, reader_tokens::proofs::Scan::past_no, reader_tokens::proofs::Scan::past_end), unfolding(crate::specs::Names::slot_of))]
 pub fn find(s: &[u8], names: [Name; NAME_SLOTS], name: Name) -> usize
     ensures { result ≡ slot_of s.now names name }
 {
-    let place = name.place as usize;
-    let len = name.len as usize;
     for (i, n) in names.iter().enumerate() {
-        if reader_tokens::is_same(s, n.place as usize, n.len as usize, s, place, len) {
+        if is_spelled_as(s, *n, name) {
             return i;
         }
     }
