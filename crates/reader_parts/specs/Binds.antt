@@ -11,6 +11,12 @@ pub and_then :
 and_then (Ok x) f P Q h k = k x h
 and_then (Err e) f P Q h k = tt
 
+-- what holds of the second whatever the first read
+pub after : {A B : Type 0} (r : Result A Fault) (f : A → Result B Fault) (Q : B → Type 0)
+    → ((x : A) → IfOk (f x) Q) → IfOk (r >>= f) Q
+after (Ok x) f Q k = k x
+after (Err e) f Q k = tt
+
 -- what holds if a stage gave no fault, holds of what it gave
 pub of_ok : {A : Type 0} {r : Result A Fault} {a : A} (P : A → Type 0) → IfOk r P → Ok a ≡ r → P a
 of_ok P h e = subst (λ x. IfOk x P) (sym e) h
