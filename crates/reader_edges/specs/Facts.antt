@@ -1,7 +1,6 @@
 -- The channel of an edge that is read is one that a text has room for, and the clock of an assignment too; no edge is
 -- read where it is one too many.
 use Rattle.std.specs.Prelude.{◌≡◌, Bool, false, List, ℕ, ◌<◌, IfOk, get_or}
-use Rattle.std.proofs.Common.{arith}
 use Rattle.reader_tokens.specs.Kinds as kinds
 use Rattle.reader_record.specs.Record.{no_channel}
 use Rattle.reader_record.specs.declared.Name.{Name}

@@ -1,6 +1,6 @@
 -- The items of an `assign` are read to their end: each takes bytes of the text, so the counter of `assigns_from` never
 -- runs out.
-use Rattle.std.specs.Prelude.{◌≡◌, Bool, true, false, List, ℕ, zero, suc, ◌≤◌, ◌<◌, Result, Ok, Err, IfOk, length, drop}
+use Rattle.std.specs.Prelude.{◌≡◌, Bool, true, false, List, ℕ, zero, suc, ◌<◌, Result, Ok, Err, IfOk, length, drop}
 use Rattle.std.proofs.Common.{refl, arith}
 use Rattle.std.proofs.Math.Dec.{eqb, ltb}
 use Rattle.reader_record.specs.declared.Name.{Name}
@@ -16,7 +16,6 @@ use Rattle.reader_parts.specs.Slots.{first_clock}
 use Rattle.reader_parts.specs.Progress.{Less, left, left_all, past_token, take_less, use_less}
 use Rattle.reader_constraints.specs.Constraints.{in_ticks, constant_of, constant}
 use Rattle.reader_edges.specs.declared.AssignRead.{AssignRead}
-use Rattle.reader_edges.specs.declared.AssignsRead.{AssignsRead}
 use Rattle.reader_edges.specs.Assigns.{with_assignment, assign_next, assigns_from, assign_items}
 use Rattle.limits.specs.Limits.{clock_limit, largest_constant}
 

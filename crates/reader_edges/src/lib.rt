@@ -253,12 +253,13 @@ pub fn edge_next(
     let labelled = label_next(s, given.end, names, channels)?;
     let assigned = assigns(period, s, labelled.end, names)?;
     let end = reader_parts::take(s, assigned.end, reader_tokens::CLOSE)?;
+    let assignments = assigned.assignments;
     let edge = Edge {
         source: source.number as u8,
         target: target.number as u8,
         guard: given.constraint,
         label: labelled.label,
-        assignments: assigned.assignments,
+        assignments,
     };
     Ok(EdgeRead {
         channel: labelled.channel,
