@@ -56,6 +56,10 @@ with_head names h init e = state_of names (whole (with_channels h e.channels) in
 abbrev pub before_edges : ℕ → List Channel → EdgesRead
 before_edges p channels = record { channels = channels; edges = no_edges; count = 0; end = p }
 
+-- what is read stands at q, where there is no fault
+abbrev pub in_place : {U A : Type 0} → Result U Fault → A → Result A Fault
+in_place x q = x >>= λ u. Ok q
+
 -- a part of the text leads from r to q, or is refused, whatever the rest of the record is
 abbrev pub ReadsHead : (State → Result State Fault) → HeadRead → Result HeadRead Fault → Type 0
 ReadsHead part r q =

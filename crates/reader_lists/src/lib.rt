@@ -1,12 +1,11 @@
 // Reads the lists of a contract text: channels, clocks, locations and edges (SPECIFICATION 3.1).
 #![tactic(auto)]
 
-ghost use Rattle.std.specs.Prelude.{◌≡◌, ◌≤◌, ◌<◌, Ok, length};
-ghost use Rattle.reader_parts.specs.Stages.{◌>>=◌};
+ghost use Rattle.std.specs.Prelude.{◌≡◌, ◌≤◌, ◌<◌, length};
 ghost use Rattle.reader_lists.specs.State.{blank_edge, no_text, direction_by, marked};
 ghost use Rattle.reader_lists.specs.Lists.{Item, limit, one_item, items};
 ghost use Rattle.reader_lists.specs.Turns.{item, first_slot, count, unused, after_item};
-ghost use Rattle.reader_lists.specs.Heads.{whole, no_edges, before_edges, ReadsHead, ReadsEdges};
+ghost use Rattle.reader_lists.specs.Heads.{whole, no_edges, before_edges, in_place, ReadsHead, ReadsEdges};
 ghost use Rattle.limits.specs.Limits.{TickLength, largest_text, channel_limit};
 
 use limits::{CHANNEL_LIMIT, CLOCK_LIMIT, EDGE_LIMIT, LOCATION_LIMIT};
@@ -96,12 +95,15 @@ pub fn no_text() -> Text
     ensures { result ≡ no_text }
 {
     let h = no_head();
+    let channels = h.channels;
+    let clocks = h.clocks;
+    let locations = h.locations;
     Text {
-        channels: h.channels,
+        channels,
         channel_count: h.channel_count,
-        clocks: h.clocks,
+        clocks,
         clock_count: h.clock_count,
-        locations: h.locations,
+        locations,
         location_count: h.location_count,
         init: 0,
         edges: [blank_edge(); EDGE_LIMIT],
@@ -208,11 +210,17 @@ fn after_item(s: &[u8], p: usize) -> Result<Turn, Fault>
 // One item more of the kind k, written in place.
 fn named_item(period: usize, s: &[u8], r: &mut HeadRead, k: Named) -> Result<(), Fault>
     requires { TickLength period × (length s.now ≤ largest_text) }
-    ensures { ReadsHead (one_item period (item k) s.now) r.now (result >>= λ _. Ok r.new) }
+    ensures { ReadsHead (one_item period (item k) s.now) r.old (in_place result r.new) }
 {
-    let n = count(k, r.head.channel_count, r.head.clock_count, r.head.location_count);
+    let n = count(
+        k,
+        r.head.channel_count,
+        r.head.clock_count,
+        r.head.location_count,
+    );
     let d = reader_parts::declare(s, r.end, r.names, first_slot(k), n, limit(k))?;
-    r.names = d.names;
+    let names = d.names;
+    r.names = names;
     r.end = d.end;
     match k {
         Named::Channel => {
@@ -224,7 +232,7 @@ fn named_item(period: usize, s: &[u8], r: &mut HeadRead, k: Named) -> Result<(),
             r.head.clock_count = n + 1;
         }
         Named::Location => {
-            let i = reader_constraints::invariant(period, s, d.end, d.names)?;
+            let i = reader_constraints::invariant(period, s, d.end, names)?;
             r.head.locations[n] = Location {
                 name: d.name,
                 invariant: i.constraint,
@@ -263,11 +271,13 @@ fn edge_item(
     r: &mut EdgesRead,
 ) -> Result<(), Fault>
     requires { TickLength period × (length s.now ≤ largest_text) }
-    ensures { ReadsEdges (one_item period Item.Edge s.now) names r.now (result >>= λ _. Ok r.new) }
+    ensures { ReadsEdges (one_item period Item.Edge s.now) names r.old (in_place result r.new) }
 {
     let n = r.count;
-    let e = reader_edges::edge_next(period, s, r.end, names, r.channels, EDGE_LIMIT <= n)?;
-    r.channels = marked(r.channels, e.channel, e.input);
+    let full = EDGE_LIMIT <= n;
+    let e = reader_edges::edge_next(period, s, r.end, names, r.channels, full)?;
+    let channels = marked(r.channels, e.channel, e.input);
+    r.channels = channels;
     r.edges[n] = e.edge;
     r.count = n + 1;
     r.end = e.end;
