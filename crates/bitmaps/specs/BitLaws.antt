@@ -1,6 +1,6 @@
 -- Laws of lists filled from a function, and of the bytes and bits of a test.
-use Rattle.std.specs.Prelude.{◌≡◌, refl, ◌⊎◌, ◌≢◌, Bool, true, false, List, ◌++◌, ℕ, zero, suc, ◌+◌, ◌-◌, ◌*◌, ◌/◌, ◌%◌, ◌^◌, ◌≤◌, ◌<◌, eqb, set}
-use Rattle.std.proofs.Common.{sym, ◌∙◌, inl, inr, ⊎_elim, not-suc-le-zero, le_of_suc-le-suc, add-zero, zero-add, eq-eqb, ne_eqb, length-append, length-drop, length-set, get_or-set_same, get_or-set_other, ext_get_or}
+use Rattle.std.specs.Prelude.{◌≡◌, refl, ◌⊎◌, ◌≢◌, Bool, true, false, List, ◌++◌, ℕ, zero, suc, ◌+◌, ◌-◌, ◌*◌, ◌/◌, ◌%◌, ◌^◌, ◌≤◌, ◌<◌, eqb, set, replicate, take, ◌∷◌}
+use Rattle.std.proofs.Common.{sym, ◌∙◌, inl, inr, ⊎_elim, not-suc-le-zero, le_of_suc-le-suc, add-zero, zero-add, eq-eqb, ne_eqb, length-append, length-drop, length-set, length-take, get_or-take, get_or-set_same, get_or-set_other, ext_get_or}
 use Rattle.std.proofs.Math.Path.{ap}
 use Rattle.std.proofs.Math.Decide.{ℕ_discrete, dec_lt}
 use native.Mathlib.Omega.{arith}
@@ -207,3 +207,24 @@ written_more f n d v h e =
 pub written_none : (f : ℕ → ℕ) (d : List ℕ) → written f 0 d ≡ d
 unfolding written tab_from
 written_none f d = refl
+
+-- all the same, and the front of a list
+tab_same : (b k n : ℕ) → replicate n b ≡ tab_from (λ i. b) k n
+unfolding tab_from
+tab_same b k zero = refl
+tab_same b k (suc n) = ap (λ (l : List ℕ). b ∷ l) (tab_same b (suc k) n)
+
+tab_front : (xs : List ℕ) (n : ℕ) → n ≤ length xs → take n xs ≡ tab_from (λ i. get_or xs i 0) 0 n
+tab_front xs n h = ext_get_or 0 (take n xs) (tab_from (λ i. get_or xs i 0) 0 n)
+    (length-take n xs ∙ omega (arith, length_tab (λ i. get_or xs i 0) 0 n))
+    (λ i l.
+    let h : i < n = omega (arith, length-take n xs) in
+    get_or-take n xs i 0 h ∙ sym (tab_at (λ i. get_or xs i 0) 0 0 n i h ∙ ap (λ (k : ℕ). get_or xs k 0) (zero-add i)))
+
+pub written_all : (b n : ℕ) (d : List ℕ) → replicate n b ++ drop n d ≡ written (λ i. b) n d
+unfolding written
+written_all b n d = ap (λ (l : List ℕ). l ++ drop n d) (tab_same b 0 n)
+
+pub written_front : (xs d : List ℕ) (n : ℕ) → n ≤ length xs → take n xs ++ drop n d ≡ written (λ i. get_or xs i 0) n d
+unfolding written
+written_front xs d n h = ap (λ (l : List ℕ). l ++ drop n d) (tab_front xs n h)

@@ -16,6 +16,7 @@ pub fn bytes_for(n: usize) -> usize
 }
 
 // Bit i of a bitmap, the high bit of byte 0 first.
+#[tactic(auto, unfolding(crate::specs::Bits::bit_at))]
 pub fn get(s: &[u8], i: usize) -> bool
     requires { i / 8 < length s.now }
     ensures { result ≡ bit_at s.now i }
@@ -32,17 +33,15 @@ pub fn clear(s: &mut [u8], i: usize)
 {
     let at = i / 8;
     let k = 7 - i % 8;
-    s[at] = s[at] - (1u8 << k);
+    s[at] -= 1u8 << k;
 }
 
+// Bit i as a number.
 pub fn bit(s: &[u8], i: usize) -> usize
     requires { i / 8 < length s.now }
     ensures { result ≡ num (bit_at s.now i) }
 {
-    if get(s, i) {
-        return 1;
-    }
-    0
+    usize::from(get(s, i))
 }
 
 // How many of the first n bits are set.
@@ -50,25 +49,20 @@ pub fn count(s: &[u8], n: usize) -> usize
     requires { (n ≤ pair_limit) × (bytes_for n ≤ length s.now) }
     ensures { Count n s.now result }
 {
-    let mut r: usize = 0;
-    let mut i: usize = 0;
-    while i < n {
+    let mut r = 0;
+    for i in 0..n {
         r += bit(s, i);
-        i += 1;
     }
     r
 }
 
 // The first m bytes of k, written into s.
+#[tactic(auto, using(crate::specs::BitLaws::written_front))]
 pub fn copy(s: &mut [u8], k: &[u8], m: usize)
     requires { (m ≤ length s.old) × (m ≤ length k.now) }
     ensures { s.new ≡ written (λ (i : ℕ). get_or k.now i 0) m s.old }
 {
-    let mut i: usize = 0;
-    while i < m {
-        s[i] = k[i];
-        i += 1;
-    }
+    s[..m].copy_from_slice(&k[..m]);
 }
 
 // Sets bit i, which is not set, where b says so.
@@ -79,18 +73,15 @@ pub fn put(s: &mut [u8], i: usize, b: bool)
     if b {
         let at = i / 8;
         let k = 7 - i % 8;
-        s[at] = s[at] + (1u8 << k);
+        s[at] += 1u8 << k;
     }
 }
 
 // The first m bytes, set to b.
+#[tactic(auto, using(crate::specs::BitLaws::written_all))]
 pub fn fill(s: &mut [u8], m: usize, b: u8)
     requires { m ≤ length s.old }
     ensures { s.new ≡ written (λ (i : ℕ). b) m s.old }
 {
-    let mut i: usize = 0;
-    while i < m {
-        s[i] = b;
-        i += 1;
-    }
+    s[..m].fill(b);
 }

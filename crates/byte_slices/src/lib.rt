@@ -25,10 +25,8 @@ pub fn put_bytes(out: &mut [u8], at: usize, bytes: &[u8]) -> usize
     ensures { Puts out.old at bytes.now out.new result }
 {
     let mut place = at;
-    let mut i: usize = 0;
-    while i < bytes.len() {
-        place = put_byte(out, place, bytes[i]);
-        i += 1;
+    for b in bytes {
+        place = put_byte(out, place, *b);
     }
     place
 }

@@ -3,7 +3,7 @@
 -- each configuration whose invariant holds, edges that give moves by one channel make one move (SPECIFICATION 6.3).
 use Rattle.std.proofs.Math.Path.{◌≡◌, refl, subst, ap}
 use Rattle.std.proofs.Common.{sym, ◌∙◌, inl, inr, ne_eqb}
-use Rattle.std.specs.Prelude.{◌↔◌, ◌⊎◌, Bool, ℕ, zero, suc, ◌+◌, ◌≤◌, ◌<◌, T}
+use Rattle.std.specs.Prelude.{Result, Ok, Err, ⊤, ◌↔◌, Bool, ℕ, zero, suc, ◌+◌, ◌≤◌, ◌<◌, T}
 use Rattle.std.proofs.Math.Logic.{⊎_elim}
 use Rattle.std.proofs.Math.Bool.{true, false}
 use native.Mathlib.Omega.{arith}
@@ -16,8 +16,8 @@ use Rattle.clocks.specs.declared.Config.{Config}
 use Rattle.clocks.specs.declared.Ranges.{Ranges}
 use Rattle.clocks.specs.declared.Moves.{Moves}
 use Rattle.clocks.specs.declared.Moves.TheVariants.{Nothing, One, Two}
-use Rattle.clocks.specs.declared.Judged.{Judged}
-use Rattle.clocks.specs.declared.Judged.TheVariants.{Clean, TooManyStates, NoMove, TwoEdges}
+use Rattle.clocks.specs.declared.Flaw.{Flaw}
+use Rattle.clocks.specs.declared.Flaw.TheVariants.{TooManyStates, NoMove, TwoEdges}
 use Rattle.clocks.specs.Meaning.{invariant, after, one_if, edge_moves, ticked, tick_move, moves, stands}
 use Rattle.clocks.specs.States.{ranges, state, config, state_moves, state_invariant, state_count, input, fault, step_fault, state_fault, states_judged, judgement}
 use Rattle.clocks.specs.Faults.{Deterministic, edge_gives, GivenByEdges, WithoutMove, TwoWays, Faulty, NoneLower}
@@ -30,10 +30,10 @@ use Rattle.clocks.proofs.Agreement.{moves_capped, invariant_agrees}
 use Rattle.clocks.proofs.Standing.{gives_exactly, stands_location, stands_invariant, state_below}
 
 -- the judgements differ
-not_no_move : (s c : ℕ) → NoMove s c ≡ Clean → ⊥
+not_no_move : (s c : ℕ) → ◌≡◌ {A = Result ⊤ Flaw} (Err (NoMove s c)) (Ok tt) → ⊥
 not_no_move s c e = let z : ◌≡◌ {A = ℕ} 0 1 = cc in omega arith
 
-not_two_edges : (s c : ℕ) → TwoEdges s c ≡ Clean → ⊥
+not_two_edges : (s c : ℕ) → ◌≡◌ {A = Result ⊤ Flaw} (Err (TwoEdges s c)) (Ok tt) → ⊥
 not_two_edges s c e = let z : ◌≡◌ {A = ℕ} 0 1 = cc in omega arith
 
 at_equal : (P : ℕ → ℕ → Type 0) (s c u d : ℕ) → s ≡ u → c ≡ d → P u d → P s c
@@ -66,7 +66,7 @@ module _ (t : Text) (w : WellFormed t) where
       go false e = unfold one_if in let z : ◌≡◌ {A = ℕ} 0 1 = cc in omega arith
 
   -- what the fault of a step is
-  two_ways_fault : (s c : ℕ) → TwoWays t s c → step_fault t s c ≡ TwoEdges s c
+  two_ways_fault : (s c : ℕ) → TwoWays t s c → step_fault t s c ≡ Err (TwoEdges s c)
   unfolding step_fault fault
   two_ways_fault s c a =
       let l = gives_label (config (ranges t) s) c a.first a.first_below a.first_gives in
@@ -77,7 +77,7 @@ module _ (t : Text) (w : WellFormed t) where
   fault_two_ways s (suc c) e = subst (GivenByEdges t (config (ranges t) s) (suc c) t.edge_count)
       (sym (by_edges s (suc c) (omega arith)) ∙ e) (edges_give t (config (ranges t) s) (suc c) t.edge_count)
 
-  without_fault : (s c : ℕ) → WithoutMove t s c → step_fault t s c ≡ NoMove s c
+  without_fault : (s c : ℕ) → WithoutMove t s c → step_fault t s c ≡ Err (NoMove s c)
   unfolding step_fault fault
   without_fault s c (i, none) = ap (fault (input t c) s c) (by_edges s c (input_known t c i).0
       ∙ none_nothing t (config (ranges t) s) c t.edge_count none) ∙ rw (T_true (input t c) i) refl
@@ -90,15 +90,15 @@ module _ (t : Text) (w : WellFormed t) where
   )
 
   -- it is none exactly if there is no such edge
-  faulty_not_clean : (s c : ℕ) → step_fault t s c ≡ Clean → Faulty t s c → ⊥
+  faulty_not_clean : (s c : ℕ) → step_fault t s c ≡ Ok tt → Faulty t s c → ⊥
   faulty_not_clean s c e f = ⊎_elim (λ n. not_no_move s c (sym (without_fault s c n) ∙ e))
       (λ a. not_two_edges s c (sym (two_ways_fault s c a) ∙ e)) f
 
-  clean_unless : (s c : ℕ) → (Faulty t s c → ⊥) → step_fault t s c ≡ Clean
+  clean_unless : (s c : ℕ) → (Faulty t s c → ⊥) → step_fault t s c ≡ Ok tt
   unfolding step_fault fault
   clean_unless s c n = go (state_moves t s c) refl
     where
-      go : (m : Moves) → state_moves t s c ≡ m → fault (input t c) s c m ≡ Clean
+      go : (m : Moves) → state_moves t s c ≡ m → fault (input t c) s c m ≡ Ok tt
       go Nothing e = ⊎_elim (λ i. absurd (n (inl (fault_without s c i e)))) (λ o. rw (T_false (input t c) o))
           (T_dec (input t c))
       go (One v) e = refl
@@ -109,12 +109,12 @@ module _ (t : Text) (w : WellFormed t) where
   faulty_known s c f = ⊎_elim (λ (i, none). (input_known t c i).1)
       (λ a. (gives_label (config (ranges t) s) c a.first a.first_below a.first_gives).1) f
 
-  state_clean : (s : ℕ) → (T (state_invariant t s) → (d : ℕ) → Faulty t s d → ⊥) → state_fault t s ≡ Clean
+  state_clean : (s : ℕ) → (T (state_invariant t s) → (d : ℕ) → Faulty t s d → ⊥) → state_fault t s ≡ Ok tt
   state_clean s n = ⊎_elim
       (λ h. of_steps t s h ∙ clean_first (t.channel_count + 1) (step_fault t s) (λ d l. clean_unless s d (n h d)))
       (not_holding t s) (T_dec (state_invariant t s))
 
-  clean_state : (s : ℕ) → state_fault t s ≡ Clean → T (state_invariant t s) → (d : ℕ) → Faulty t s d → ⊥
+  clean_state : (s : ℕ) → state_fault t s ≡ Ok tt → T (state_invariant t s) → (d : ℕ) → Faulty t s d → ⊥
   clean_state s e h d f = faulty_not_clean s d (first_clean (t.channel_count + 1) (step_fault t s)
       (sym (of_steps t s h) ∙ e) d (omega (arith, faulty_known s d f))) f
 
@@ -128,7 +128,7 @@ module _ (t : Text) (w : WellFormed t) where
       first_at (state_count t) (state_fault t) s l.state
       (λ u k. state_clean u (λ h d. l.lower_states u d k h)) (λ e. faulty_not_clean s c (sym here ∙ e) f) ∙ here
 
-  judged_lower : (j : Judged) → (j ≡ Clean → ⊥) → states_judged t ≡ j
+  judged_lower : (j : Result ⊤ Flaw) → (j ≡ Ok tt → ⊥) → states_judged t ≡ j
       → (s : ℕ) × (c : ℕ) × NoneLower t s c × (step_fault t s c ≡ j)
   judged_lower j n e =
       let (s, c, l, k, h, q, (states, channels)) = judged_found t j n e in (
@@ -143,26 +143,26 @@ module _ (t : Text) (w : WellFormed t) where
         q,
       )
 
-  two_edges_found : (s c : ℕ) → (states_judged t ≡ TwoEdges s c) ↔ (NoneLower t s c × TwoWays t s c)
+  two_edges_found : (s c : ℕ) → (states_judged t ≡ Err (TwoEdges s c)) ↔ (NoneLower t s c × TwoWays t s c)
   two_edges_found s c = (
     λ e.
-        let (u, d, l, q) = judged_lower (TwoEdges s c) (not_two_edges s c) e in
+        let (u, d, l, q) = judged_lower (Err (TwoEdges s c)) (not_two_edges s c) e in
         let (a, b, m) = two_edges_means t u d s c q in
         at_equal (λ s c. NoneLower t s c × TwoWays t s c) s c u d a b (l, fault_two_ways u d m),
     λ (l, a). lower_judged s c l (inr a) ∙ two_ways_fault s c a,
   )
 
-  no_move_found : (s c : ℕ) → (states_judged t ≡ NoMove s c) ↔ (NoneLower t s c × WithoutMove t s c)
+  no_move_found : (s c : ℕ) → (states_judged t ≡ Err (NoMove s c)) ↔ (NoneLower t s c × WithoutMove t s c)
   no_move_found s c = (
     λ e.
-        let (u, d, l, q) = judged_lower (NoMove s c) (not_no_move s c) e in
+        let (u, d, l, q) = judged_lower (Err (NoMove s c)) (not_no_move s c) e in
         let (a, b, i, m) = no_move_means t u d s c q in
         at_equal (λ s c. NoneLower t s c × WithoutMove t s c) s c u d a b (l, fault_without u d i m),
     λ (l, n). lower_judged s c l (inl n) ∙ without_fault s c n,
   )
 
   -- after code 9 (SPECIFICATION 13.4)
-  few_and : (j : Judged) (P : Type 0) → ((n : ℕ) → TooManyStates n ≡ j → ⊥) → (states_judged t ≡ j) ↔ P
+  few_and : (j : Result ⊤ Flaw) (P : Type 0) → ((n : ℕ) → Err (TooManyStates n) ≡ j → ⊥) → (states_judged t ≡ j) ↔ P
       → (judgement t ≡ j) ↔ ((state_count t ≤ state_limit) × P)
   few_and j P n i = (
     λ e. let (few, q) = (judgement_exactly t j n).0 e in (few, i.0 q),
@@ -170,14 +170,14 @@ module _ (t : Text) (w : WellFormed t) where
   )
 
   -- code 11 exactly, and code 10
-  pub two_edges_exactly : (s c : ℕ) → (judgement t ≡ TwoEdges s c)
+  pub two_edges_exactly : (s c : ℕ) → (judgement t ≡ Err (TwoEdges s c))
       ↔ ((state_count t ≤ state_limit) × (NoneLower t s c × TwoWays t s c))
-  two_edges_exactly s c = few_and (TwoEdges s c) (NoneLower t s c × TwoWays t s c)
+  two_edges_exactly s c = few_and (Err (TwoEdges s c)) (NoneLower t s c × TwoWays t s c)
       (λ n e. let z : ◌≡◌ {A = ℕ} 0 1 = cc in absurd (omega arith)) (two_edges_found s c)
 
-  pub no_move_exactly : (s c : ℕ) → (judgement t ≡ NoMove s c)
+  pub no_move_exactly : (s c : ℕ) → (judgement t ≡ Err (NoMove s c))
       ↔ ((state_count t ≤ state_limit) × (NoneLower t s c × WithoutMove t s c))
-  no_move_exactly s c = few_and (NoMove s c) (NoneLower t s c × WithoutMove t s c)
+  no_move_exactly s c = few_and (Err (NoMove s c)) (NoneLower t s c × WithoutMove t s c)
       (λ n e. let z : ◌≡◌ {A = ℕ} 0 1 = cc in absurd (omega arith)) (no_move_found s c)
 
 -- the moves of any configuration of an accepted text, uncapped: never two, and one for an input

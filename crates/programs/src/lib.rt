@@ -2,7 +2,7 @@
 // (SPECIFICATION 14.1, 14.3).
 #![tactic(auto)]
 
-ghost use Rattle.std.specs.Prelude.{◌≡◌, ◌≤◌, length, take};
+ghost use Rattle.std.specs.Prelude.{◌≡◌, ℕ, ◌≤◌, length, get_or, take};
 
 use std::fs::File;
 use std::io::Read;
@@ -12,11 +12,18 @@ use std::{io, str};
 // More than the largest text, so that a longer one is seen to be longer; the contract below says its length.
 const TEXT_ROOM: usize = 65536;
 
-// It stands behind a function because antt must not unfold an array of this length.
+// Zeros, to read into or to print from. They stand behind a function because antt must not unfold an array of so many.
+pub fn room<const BYTES: usize>() -> [u8; BYTES]
+    ensures long { length result ≡ BYTES }
+    ensures zeros { (i : ℕ) → get_or result i 0 ≡ 0 }
+{
+    [0; BYTES]
+}
+
 pub fn text_room() -> [u8; TEXT_ROOM]
     ensures { 65536 ≡ length result }
 {
-    [0u8; TEXT_ROOM]
+    room()
 }
 
 // Reads until the buffer is full, the input ends or a read fails, and answers how many bytes it put at the start of the

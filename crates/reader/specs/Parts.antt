@@ -1,15 +1,15 @@
--- The parts of a text as the code reads them, which has the record's head and its edges apart.
-use Rattle.std.specs.Prelude.{◌≡◌, List, ℕ, Result, Ok}
-use Rattle.reader_record.specs.declared.Text.{Text}
+-- The parts before `init`, whose record the code has in two: the head and the rest.
+use Rattle.std.specs.Prelude.{List, ℕ, Result, Ok}
 use Rattle.reader_parts.specs.declared.Fault.{Fault}
 use Rattle.reader_parts.specs.Stages.{◌>>=◌}
+use Rattle.reader_lists.specs.declared.HeadRead.{HeadRead}
 use Rattle.reader_lists.specs.State.{State}
+use Rattle.reader_lists.specs.Heads.{no_edges, with_rest}
 use Rattle.reader.specs.Reading.{start, channel_part, process_part, clock_part, location_part}
 
--- a part of the text leads from r by what it reads, x, to q, or is refused, whatever the record is
-abbrev pub ReadsAny :
-    {A : Type 0} → (State → Result State Fault) → (Text → State) → Result A Fault → (Text → A → State) → Type 0
-ReadsAny part r x q = (t : Text) → part (r t) ≡ (x >>= λ a. Ok (q t a))
+-- the state with the head that is read, of which nothing else is read
+abbrev pub head_of : Result HeadRead Fault → Result State Fault
+head_of r = r >>= λ h. Ok (with_rest h 0 no_edges 0)
 
 -- at one tick length, `period` (SPECIFICATION 4.7)
 module _ (period : ℕ) where

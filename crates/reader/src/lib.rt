@@ -2,25 +2,21 @@
 // (SPECIFICATION 4.7) or one of the codes 1 to 8 (SPECIFICATION 4.5).
 #![tactic(auto)]
 
-ghost use Rattle.std.specs.Prelude.{◌≡◌, ◌≤◌, Ok, length};
-ghost use Rattle.reader_record.specs.declared.Text.{Text};
-ghost use Rattle.reader_parts.specs.declared.Declaration.{Declaration};
-ghost use Rattle.reader_parts.specs.declared.Use.{Use};
-ghost use Rattle.reader_parts.specs.Stages.{◌>>=◌};
-ghost use Rattle.reader_lists.specs.State.{State};
-ghost use Rattle.reader_lists.specs.State.{state_of, with_init};
+ghost use Rattle.std.specs.Prelude.{◌≡◌, ◌≤◌, length};
 ghost use Rattle.reader_lists.specs.Heads.{no_edges, before_edges, with_rest, ReadsHead, ReadsEdges};
-ghost use Rattle.reader.specs.Reading.{start, channel_part, process_part, clock_part, location_part, init_part};
-ghost use Rattle.reader.specs.Reading.{edge_part, end_part, read_whole, read_text};
-ghost use Rattle.reader.specs.Parts.{read_head, ReadsAny};
+ghost use Rattle.reader.specs.Reading.{start, channel_part, process_read, clock_part, location_part, init_read};
+ghost use Rattle.reader.specs.Reading.{edge_part, end_read, read_whole, text_of, read_text};
+ghost use Rattle.reader.specs.Parts.{head_of, read_head};
 ghost use Rattle.reader.specs.Faults.{refusal_of};
 ghost use Rattle.limits.specs.Limits.{TickLength, largest_text};
 
 use limits::{CHANNEL_LIMIT, LARGEST_TEXT, LOCATION_LIMIT};
 use reader_lists::{EdgesRead, HeadRead, Named};
-use reader_parts::{Declaration, FIRST_LOCATION, Fault, NAME_SLOTS, PROCESS_LIMIT, PROCESS_SLOT, Use};
+use reader_parts::{
+    Declaration, FIRST_LOCATION, Fault, NAME_SLOTS, PROCESS_LIMIT, PROCESS_SLOT, Use,
+};
 use reader_record::{Channel, Name, Text};
-use refusals::Refusal;
+use refusals::{File, Refusal};
 
 // Nothing is read and nothing is declared.
 #[tactic(auto, unfolding(crate::specs::Reading::start))]
@@ -35,22 +31,6 @@ fn start() -> HeadRead
     }
 }
 
-// The items of the kind k, from the place p on.
-fn items_at(
-    period: usize,
-    s: &[u8],
-    p: usize,
-    r: HeadRead,
-    k: Named,
-) -> Result<HeadRead, Fault>
-    requires { TickLength period × (length s.now ≤ largest_text) }
-    ensures { ReadsHead (items period (item k) s.now) (record { names = r.names; head = r.head; end = p }) result }
-{
-    let mut from = r;
-    from.end = p;
-    reader_lists::named_items(period, s, from, k)
-}
-
 // The channels, where there are any (SPECIFICATION 3.1).
 fn channel_part(period: usize, s: &[u8], r: HeadRead) -> Result<HeadRead, Fault>
     requires { TickLength period × (length s.now ≤ largest_text) }
@@ -61,21 +41,25 @@ fn channel_part(period: usize, s: &[u8], r: HeadRead) -> Result<HeadRead, Fault>
     }
     let a = reader_parts::take(s, r.end, reader_tokens::BROADCAST)?;
     let b = reader_parts::take(s, a, reader_tokens::CHAN)?;
-    items_at(period, s, b, r, Named::Channel)
+    let mut from = r;
+    from.end = b;
+    reader_lists::named_items(period, s, from, Named::Channel)
 }
 
 // The process and its name (SPECIFICATION 3.1).
+#[tactic(auto, unfolding(crate::specs::Reading::process_read))]
 fn process_part(s: &[u8], p: usize, names: [Name; NAME_SLOTS]) -> Result<Declaration, Fault>
     requires { length s.now ≤ largest_text }
-    ensures { ReadsAny (process_part s.now) (λ t. state_of names t p) result (λ t d. state_of d.names t d.end) }
+    ensures { result ≡ process_read s.now p names }
 {
     let a = reader_parts::take(s, p, reader_tokens::PROCESS)?;
     let d = reader_parts::declare(s, a, names, PROCESS_SLOT, 0, PROCESS_LIMIT)?;
     let b = reader_parts::take(s, d.end, reader_tokens::LEFT)?;
     let c = reader_parts::take(s, b, reader_tokens::RIGHT)?;
     let end = reader_parts::take(s, c, reader_tokens::OPEN)?;
+    let names = d.names;
     Ok(Declaration {
-        names: d.names,
+        names,
         name: d.name,
         end,
     })
@@ -90,7 +74,9 @@ fn clock_part(period: usize, s: &[u8], r: HeadRead) -> Result<HeadRead, Fault>
         return Ok(r);
     }
     let a = reader_parts::take(s, r.end, reader_tokens::CLOCK)?;
-    items_at(period, s, a, r, Named::Clock)
+    let mut from = r;
+    from.end = a;
+    reader_lists::named_items(period, s, from, Named::Clock)
 }
 
 // The locations (SPECIFICATION 3.1).
@@ -99,18 +85,22 @@ fn location_part(period: usize, s: &[u8], r: HeadRead) -> Result<HeadRead, Fault
     ensures { ReadsHead (location_part period s.now) r result }
 {
     let a = reader_parts::take(s, r.end, reader_tokens::STATE)?;
-    items_at(period, s, a, r, Named::Location)
+    let mut from = r;
+    from.end = a;
+    reader_lists::named_items(period, s, from, Named::Location)
 }
 
 // The parts before `init`.
 fn read_head(period: usize, s: &[u8]) -> Result<HeadRead, Fault>
     requires { TickLength period × (length s.now ≤ largest_text) }
-    ensures { read_head period s.now ≡ (result >>= λ r. Ok (with_rest r 0 no_edges 0)) }
+    ensures { read_head period s.now ≡ head_of result }
 {
     let a = channel_part(period, s, start())?;
-    let d = process_part(s, a.end, a.names)?;
+    let before = a.names;
+    let d = process_part(s, a.end, before)?;
+    let names = d.names;
     let b = HeadRead {
-        names: d.names,
+        names,
         head: a.head,
         end: d.end,
     };
@@ -119,9 +109,10 @@ fn read_head(period: usize, s: &[u8]) -> Result<HeadRead, Fault>
 }
 
 // The start (SPECIFICATION 3.1).
+#[tactic(auto, unfolding(crate::specs::Reading::init_read))]
 fn init_part(s: &[u8], p: usize, names: [Name; NAME_SLOTS]) -> Result<Use, Fault>
     requires { length s.now ≤ largest_text }
-    ensures { ReadsAny (init_part s.now) (λ t. state_of names t p) result (λ t u. state_of names (with_init t u.number) u.end) }
+    ensures { result ≡ init_read s.now p names }
 {
     let a = reader_parts::take(s, p, reader_tokens::INIT)?;
     let u = reader_parts::use_name(s, a, names, FIRST_LOCATION, LOCATION_LIMIT, false)?;
@@ -152,9 +143,10 @@ fn edge_part(
 }
 
 // The name of the process again, and the end of the text (SPECIFICATION 3.1, 3.3).
+#[tactic(auto, unfolding(crate::specs::Reading::end_read))]
 fn end_part(s: &[u8], p: usize, names: [Name; NAME_SLOTS]) -> Result<usize, Fault>
     requires { length s.now ≤ largest_text }
-    ensures { ReadsAny (end_part s.now) (λ t. state_of names t p) result (λ t q. state_of names t q) }
+    ensures { result ≡ end_read s.now p names }
 {
     let a = reader_parts::take(s, p, reader_tokens::CLOSE)?;
     let b = reader_parts::take(s, a, reader_tokens::SYSTEM)?;
@@ -163,56 +155,63 @@ fn end_part(s: &[u8], p: usize, names: [Name; NAME_SLOTS]) -> Result<usize, Faul
     reader_parts::take(s, c, reader_tokens::END)
 }
 
-// The refusal for each reason to refuse a text (SPECIFICATION 13.1).
+// The refusal for each reason to refuse a text (SPECIFICATION 13.1), which is taken for the left or only one.
+#[tactic(auto, unfolding(crate::specs::Faults::refusal_of))]
 fn refusal_of(f: Fault) -> Refusal
     ensures { result ≡ refusal_of f }
 {
     match f {
-        Fault::TooLong => Refusal::text_too_long(),
-        Fault::Misfit(p) => Refusal::misfit(p),
-        Fault::NameTooLong(p) => Refusal::name_too_long(p),
-        Fault::Declared(p) => Refusal::declared_before(p),
-        Fault::Unknown(p) => Refusal::unknown_name(p),
-        Fault::TooLarge(p) => Refusal::constant_too_large(p),
-        Fault::TooManyItems(p) => Refusal::too_many_items(p),
-        Fault::OtherMark(p) => Refusal::other_mark(p),
+        Fault::TooLong => Refusal::TextTooLong(File::Left),
+        Fault::Misfit(p) => Refusal::Misfit(File::Left, p),
+        Fault::NameTooLong(p) => Refusal::NameTooLong(File::Left, p),
+        Fault::Declared(p) => Refusal::DeclaredBefore(File::Left, p),
+        Fault::Unknown(p) => Refusal::UnknownName(File::Left, p),
+        Fault::TooLarge(p) => Refusal::ConstantTooLarge(File::Left, p),
+        Fault::TooManyItems(p) => Refusal::TooManyItems(File::Left, p),
+        Fault::OtherMark(p) => Refusal::OtherMark(File::Left, p),
     }
 }
 
 // The parts in their order, and the record put together where all of them fit.
 fn read_whole(period: usize, s: &[u8]) -> Result<Text, Fault>
     requires { TickLength period × (length s.now ≤ largest_text) }
-    ensures { result ≡ (read_whole period s.now >>= λ r. Ok r.text) }
+    ensures { result ≡ text_of (read_whole period s.now) }
 {
     let r = read_head(period, s)?;
     let h = r.head;
-    let i = init_part(s, r.end, r.names)?;
-    let e = edge_part(period, s, i.end, r.names, h.channels)?;
-    end_part(s, e.end, r.names)?;
+    let names = r.names;
+    let i = init_part(s, r.end, names)?;
+    let given = h.channels;
+    let e = edge_part(period, s, i.end, names, given)?;
+    end_part(s, e.end, names)?;
+    let channels = e.channels;
+    let clocks = h.clocks;
+    let locations = h.locations;
+    let edges = e.edges;
     Ok(Text {
-        channels: e.channels,
+        channels,
         channel_count: h.channel_count,
-        clocks: h.clocks,
+        clocks,
         clock_count: h.clock_count,
-        locations: h.locations,
+        locations,
         location_count: h.location_count,
         init: i.number,
-        edges: e.edges,
+        edges,
         edge_count: e.count,
     })
 }
 
 // The record of the text at a tick length, or its refusal: the operation read (SPECIFICATION 12.1) as far as code 8.
 // Codes 9 to 11 are judged by the crates above, which know states and moves.
+#[tactic(auto, unfolding(crate::specs::Reading::read_text), using(limits::specs::Laws::allowed_length))]
 pub fn parse(period: usize, text: &[u8]) -> Result<Text, Refusal>
     ensures { result ≡ read_text period text.now }
 {
     if !limits::is_tick_length(period) {
-        return Err(Refusal::tick_out_of_range(period));
+        return Err(Refusal::TickOutOfRange(period));
     }
     if LARGEST_TEXT < text.len() {
-        let f = Fault::TooLong;
-        return Err(refusal_of(f));
+        return Err(refusal_of(Fault::TooLong));
     }
     match read_whole(period, text) {
         Ok(t) => Ok(t),

@@ -10,7 +10,7 @@ use Rattle.reader_edges.specs.Edges.{edge_next}
 use Rattle.reader_lists.specs.State.{blank_edge, no_text, next_token, with_channel, with_clock, with_location, direction_by, marked, with_edge, with_init}
 use Rattle.reader_lists.specs.Lists.{channel_item, clock_item, location_item, edge_item, items_from, items}
 use Rattle.reader.specs.Faults.{refusal_of}
-use Rattle.reader.specs.Reading.{start, list_part, channel_part, process_part, location_part, init_part, end_part, read_whole, refused, answer, read_text}
+use Rattle.reader.specs.Reading.{start, list_part, channel_part, process_part, location_part, init_part, end_part, read_whole, answer, read_text}
 use Rattle.limits.specs.Limits.{tick_allowed}
 
 unfoldable pub opened : Unit {0}
@@ -22,5 +22,5 @@ unfolding is_space is_letter is_digit is_part run past numeral_value agree same 
     no_assignments then_assigned with_assignment assign_next assigns_from assign_items assigns edge_next blank_edge
     no_text next_token with_channel with_clock with_location direction_by marked with_edge with_init channel_item clock_item
     location_item edge_item items_from items start list_part channel_part process_part location_part init_part
-    end_part read_whole refusal_of refused answer tick_allowed read_text
+    end_part read_whole refusal_of answer tick_allowed read_text
 opened = tt

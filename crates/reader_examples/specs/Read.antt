@@ -1,10 +1,9 @@
 -- The eleven posts (SPECIFICATION 16.1) and texts of SPECIFICATION 16.10 and 16.11 read to their records, at tick length
 -- 1, and Sheet at others (SPECIFICATION 16.9): computed by the definition of reading.
-use Rattle.std.specs.Prelude.{◌≡◌, refl, List, ℕ}
+use Rattle.std.specs.Prelude.{◌≡◌, refl, List, ℕ, Ok, Err}
 use Rattle.reader_record.specs.declared.Text.{Text}
-use Rattle.refusals.specs.declared.Verdict.TheVariants.{Accepted, Refused}
-use Rattle.refusals.specs.Refusals.{constant_too_large, tick_out_of_range}
-use Rattle.reader_lists.specs.State.{no_text}
+use Rattle.refusals.specs.declared.File.TheVariants.{Left}
+use Rattle.refusals.specs.declared.Refusal.TheVariants.{ConstantTooLarge, TickOutOfRange}
 use Rattle.reader.specs.Reading.{read_text}
 use Rattle.reader_examples.specs.Opened.{opened}
 use Rattle.reader_examples.specs.Texts.{post, rearm, woken, overridden, too_late, early, strict, loose, sheet, hush, idle, spare, twice, stay_or_go, reset_or_not, late_or_not, woken_twice}
@@ -12,7 +11,7 @@ use Rattle.reader_examples.specs.Records.{post_record, rearm_record, woken_recor
 use Rattle.limits.specs.Limits.{shortest_tick}
 
 abbrev pub ReadsAt : ℕ → List ℕ → Text → Type 0
-ReadsAt period s t = read_text period s ≡ record { answer = Accepted; text = t }
+ReadsAt period s t = read_text period s ≡ Ok t
 
 abbrev pub ReadsTo : List ℕ → Text → Type 0
 ReadsTo = ReadsAt shortest_tick
@@ -93,8 +92,8 @@ sheet_read = record { at_1000 = refl; at_2000 = refl; at_60000 = refl }
 
 -- at tick length 1 the first of the two constants is too large, and 0 is no tick length
 pub record SheetRefused : Type 0 where
-  pub at_1 : read_text shortest_tick sheet ≡ record { answer = Refused (constant_too_large 78); text = no_text }
-  pub at_0 : read_text 0 sheet ≡ record { answer = Refused (tick_out_of_range 0); text = no_text }
+  pub at_1 : read_text shortest_tick sheet ≡ Err (ConstantTooLarge Left 78)
+  pub at_0 : read_text 0 sheet ≡ Err (TickOutOfRange 0)
 
 pub sheet_refused : SheetRefused
 unfolding opened

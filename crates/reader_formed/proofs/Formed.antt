@@ -1,6 +1,6 @@
 -- The record of an accepted text is well formed, its names lie within the text, and they differ.
-use Rattle.std.specs.Prelude.{◌≡◌, refl, Bool, true, List, ℕ, ◌+◌, ◌-◌, ◌<◌, ltb, length}
-use Rattle.std.proofs.Common.{sym, subst, arith}
+use Rattle.std.specs.Prelude.{◌≡◌, refl, Bool, true, List, ℕ, ◌+◌, ◌-◌, ◌<◌, ltb, length, Result, Ok, Err, IfOk, ⊤}
+use Rattle.std.proofs.Common.{arith}
 use Rattle.std.proofs.Math.Bool.{false}
 use Rattle.reader_parts.specs.Slots.{process_slot, process_limit, first_location}
 use Rattle.reader_tokens.specs.Kinds as kinds
@@ -16,10 +16,9 @@ use Rattle.reader_lists.specs.Lists.{Item}
 use Rattle.reader_lists.specs.Lists.Item.{Channel, Location}
 use Rattle.reader_lists.specs.State.{State}
 use Rattle.reader_lists.specs.State.{with_init}
-use Rattle.refusals.specs.declared.Verdict.{Verdict}
-use Rattle.refusals.specs.declared.Verdict.TheVariants.{Accepted, Refused}
-use Rattle.reader.specs.declared.Parsed.{Parsed}
-use Rattle.reader.specs.Reading.{start, channel_part, list_part, process_part, location_part, init_part, end_part, read_whole, refused, answer, read_text}
+use Rattle.refusals.specs.declared.Refusal.{Refusal}
+use Rattle.refusals.specs.Answers.{answer_of}
+use Rattle.reader.specs.Reading.{start, channel_part, list_part, process_part, location_part, init_part, end_part, read_whole, answer, record_of, read_text}
 use Rattle.reader_formed.specs.Promise.{NamesWithin, NamesDiffer, Unlike}
 use Rattle.reader_formed.proofs.Cases.{split, either}
 use Rattle.reader_formed.proofs.Going.{Going}
@@ -165,38 +164,41 @@ promised s names t h =
       };
     }
 
-abbrev IsAccepted : Verdict → Type 0
-IsAccepted Accepted = Unit {0}
-IsAccepted (Refused f) = ⊥
+answered : (s : List ℕ) (st : Status) (t : Text) → (Going st → Promised s t) → IfOk (answer st t) (Promised s)
+unfolding answer
+answered s (status.At p) t h = h tt
+answered s (status.Refused f) t h = tt
 
-answered :
-    (s : List ℕ) (st : Status) (t : Text) → (Going st → Promised s t) → IsAccepted (answer st t).answer →
-    Promised s (answer st t).text
-unfolding answer refused
-answered s (status.At p) t h a = h tt
-answered s (status.Refused f) t h a = absurd a
+-- what holds of the record of a text that is accepted
+pub of_accepted :
+    (P : Text → Type 0) (r : Result Text Refusal) → IfOk r P → answer_of r ≡ Ok tt → P (record_of r)
+of_accepted P (Ok t) h e = h
+of_accepted P (Err f) h e = no e
+  where
+    no : ◌≡◌ {A = Result ⊤ Refusal} (Err f) (Ok tt) → P (record_of (Err f))
+    no q = cc
 
 module _ (period : ℕ) where
-  keeps_promise : (s : List ℕ) → IsAccepted (read_text period s).answer → Promised s (read_text period s).text
-  unfolding read_text refused
+  keeps_promise : (s : List ℕ) → IfOk (read_text period s) (Promised s)
+  unfolding read_text
   keeps_promise s =
       split P (tick_allowed period)
       (λ _. split P (ltb largest_text (length s))
-      (λ _ a. absurd a)
+      (λ _. tt)
       (λ _. answered s _ _ (λ g. promised s _ _ (whole_good period s g))))
-      (λ _ a. absurd a)
+      (λ _. tt)
     where
-      P : Parsed → Type 0
-      P r = IsAccepted r.answer → Promised s r.text
+      P : Result Text Refusal → Type 0
+      P r = IfOk r (Promised s)
 
-  accepted : (s : List ℕ) → (read_text period s).answer ≡ Accepted → Promised s (read_text period s).text
-  accepted s e = keeps_promise s (subst IsAccepted (sym e) tt)
+  accepted : (s : List ℕ) → answer_of (read_text period s) ≡ Ok tt → Promised s (record_of (read_text period s))
+  accepted s = of_accepted (Promised s) (read_text period s) (keeps_promise s)
 
-  pub read_formed : (s : List ℕ) → (read_text period s).answer ≡ Accepted → WellFormed (read_text period s).text
+  pub read_formed : (s : List ℕ) → answer_of (read_text period s) ≡ Ok tt → WellFormed (record_of (read_text period s))
   read_formed s e = (accepted s e).formed
 
-  pub read_names : (s : List ℕ) → (read_text period s).answer ≡ Accepted → NamesWithin s (read_text period s).text
+  pub read_names : (s : List ℕ) → answer_of (read_text period s) ≡ Ok tt → NamesWithin s (record_of (read_text period s))
   read_names s e = (accepted s e).within
 
-  pub read_differ : (s : List ℕ) → (read_text period s).answer ≡ Accepted → NamesDiffer s (read_text period s).text
+  pub read_differ : (s : List ℕ) → answer_of (read_text period s) ≡ Ok tt → NamesDiffer s (record_of (read_text period s))
   read_differ s e = (accepted s e).differ

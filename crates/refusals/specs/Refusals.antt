@@ -1,123 +1,159 @@
--- Refusals: a definition a row of the table in SPECIFICATION 13.1, with the file marks of SPECIFICATION 13.2. Codes 1
--- to 11, 22 and 23 are those of the left or only text. Each comment names the code and cites the clause that says when
--- it comes.
+-- Refusals (SPECIFICATION 13.1, 13.2): what the code, file mark, p and q of each are. The comments of the enum name the
+-- codes and cite the clauses that say when they come.
 use Rattle.std.specs.Prelude.{ℕ, ◌+◌, ◌*◌}
+use Rattle.steps.specs.declared.Step.{Step}
+use Rattle.refusals.specs.declared.File.{File}
+use Rattle.refusals.specs.declared.File.TheVariants.{None, Left, Right}
 use Rattle.refusals.specs.declared.Refusal.{Refusal}
+use Rattle.refusals.specs.declared.Refusal.TheVariants.{TextTooLong, Misfit, NameTooLong, DeclaredBefore, UnknownName, ConstantTooLarge, TooManyItems, OtherMark, TooManyStates, InputWithoutMove, TwoEdges, UnmatchedChannel, KeepTooShort, TableTooShort, QueueTooShort, OtherTable, StartNotSafe, StartPairNotSet, PairNotAllowed, RuleBroken, RunTooShort, OutputBesideTick, NeitherPossible, TickOutOfRange, LimitExceeded, OutTooShort}
 
--- the file marks (SPECIFICATION 13.2): the left or only text, the right text, no file
-abbrev pub left_file : ℕ
-left_file = 1
+-- the file marks (SPECIFICATION 13.2)
+abbrev pub mark : File → ℕ
+mark None = 0
+mark Left = 1
+mark Right = 2
 
-abbrev pub right_file : ℕ
-right_file = 2
+-- a pair that fails the rules for a step; `width` is W (SPECIFICATION 11.5)
+abbrev pub rule_broken : ℕ → Step → ℕ → ℕ → Refusal
+rule_broken width step s t = RuleBroken step (s * width + t)
 
-abbrev pub no_file : ℕ
-no_file = 0
+abbrev pub code : Refusal → ℕ
+code (TextTooLong _) = 1
+code (Misfit _ _) = 2
+code (NameTooLong _ _) = 3
+code (DeclaredBefore _ _) = 4
+code (UnknownName _ _) = 5
+code (ConstantTooLarge _ _) = 6
+code (TooManyItems _ _) = 7
+code (OtherMark _ _) = 8
+code (TooManyStates _ _) = 9
+code (InputWithoutMove _ _ _) = 10
+code (TwoEdges _ _ _) = 11
+code (UnmatchedChannel _ _) = 12
+code (KeepTooShort _) = 13
+code (TableTooShort _) = 14
+code (QueueTooShort _) = 15
+code OtherTable = 16
+code (StartNotSafe _) = 17
+code (StartPairNotSet _ _) = 18
+code (PairNotAllowed _ _) = 19
+code (RuleBroken _ _) = 20
+code (RunTooShort _) = 21
+code (OutputBesideTick _ _ _) = 22
+code (NeitherPossible _ _) = 23
+code (TickOutOfRange _) = 24
+code LimitExceeded = 25
+code (OutTooShort _) = 26
+
+abbrev pub file : Refusal → File
+file (TextTooLong f) = f
+file (Misfit f _) = f
+file (NameTooLong f _) = f
+file (DeclaredBefore f _) = f
+file (UnknownName f _) = f
+file (ConstantTooLarge f _) = f
+file (TooManyItems f _) = f
+file (OtherMark f _) = f
+file (TooManyStates f _) = f
+file (InputWithoutMove f _ _) = f
+file (TwoEdges f _ _) = f
+file (UnmatchedChannel f _) = f
+file (KeepTooShort _) = None
+file (TableTooShort _) = None
+file (QueueTooShort _) = None
+file OtherTable = None
+file (StartNotSafe _) = Left
+file (StartPairNotSet _ _) = None
+file (PairNotAllowed _ _) = None
+file (RuleBroken _ _) = None
+file (RunTooShort _) = None
+file (OutputBesideTick f _ _) = f
+file (NeitherPossible f _) = f
+file (TickOutOfRange _) = None
+file LimitExceeded = None
+file (OutTooShort _) = None
+
+abbrev pub p : Refusal → ℕ
+p (TextTooLong _) = 0
+p (Misfit _ place) = place
+p (NameTooLong _ place) = place
+p (DeclaredBefore _ place) = place
+p (UnknownName _ place) = place
+p (ConstantTooLarge _ place) = place
+p (TooManyItems _ place) = place
+p (OtherMark _ place) = place
+p (TooManyStates _ states) = states
+p (InputWithoutMove _ state _) = state
+p (TwoEdges _ state _) = state
+p (UnmatchedChannel _ channel) = channel
+p (KeepTooShort bytes) = bytes
+p (TableTooShort bytes) = bytes
+p (QueueTooShort entries) = entries
+p OtherTable = 0
+p (StartNotSafe start) = start
+p (StartPairNotSet s _) = s
+p (PairNotAllowed s _) = s
+p (RuleBroken step _) = step.number
+p (RunTooShort steps) = steps
+p (OutputBesideTick _ state _) = state
+p (NeitherPossible _ state) = state
+p (TickOutOfRange period) = period
+p LimitExceeded = 0
+p (OutTooShort bytes) = bytes
+
+abbrev pub q : Refusal → ℕ
+q (TextTooLong _) = 0
+q (Misfit _ _) = 0
+q (NameTooLong _ _) = 0
+q (DeclaredBefore _ _) = 0
+q (UnknownName _ _) = 0
+q (ConstantTooLarge _ _) = 0
+q (TooManyItems _ _) = 0
+q (OtherMark _ _) = 0
+q (TooManyStates _ _) = 0
+q (InputWithoutMove _ _ channel) = channel
+q (TwoEdges _ _ channel) = channel
+q (UnmatchedChannel _ _) = 0
+q (KeepTooShort _) = 0
+q (TableTooShort _) = 0
+q (QueueTooShort _) = 0
+q OtherTable = 0
+q (StartNotSafe _) = 0
+q (StartPairNotSet _ t) = t
+q (PairNotAllowed _ t) = t
+q (RuleBroken _ pair) = pair
+q (RunTooShort _) = 0
+q (OutputBesideTick _ _ channel) = channel
+q (NeitherPossible _ _) = 0
+q (TickOutOfRange _) = 0
+q LimitExceeded = 0
+q (OutTooShort _) = 0
 
 -- the same refusal with another file mark
-abbrev pub in_file : ℕ → Refusal → Refusal
-in_file file r = record { code = r.code; file = file; p = r.p; q = r.q }
-
--- 1: a text over its limit (SPECIFICATION 4.5)
-abbrev pub text_too_long : Refusal
-text_too_long = record { code = 1; file = left_file; p = 0; q = 0 }
-
--- 2: a token in a place where it does not fit (SPECIFICATION 4.5)
-abbrev pub misfit : ℕ → Refusal
-misfit place = record { code = 2; file = left_file; p = place; q = 0 }
-
--- 3: a name over its limit (SPECIFICATION 4.5)
-abbrev pub name_too_long : ℕ → Refusal
-name_too_long place = record { code = 3; file = left_file; p = place; q = 0 }
-
--- 4: a second declaration of a name (SPECIFICATION 4.5)
-abbrev pub declared_before : ℕ → Refusal
-declared_before place = record { code = 4; file = left_file; p = place; q = 0 }
-
--- 5: the use of a name that has no declaration, or one of another kind (SPECIFICATION 4.5)
-abbrev pub unknown_name : ℕ → Refusal
-unknown_name place = record { code = 5; file = left_file; p = place; q = 0 }
-
--- 6: a constant over its limit (SPECIFICATION 4.5)
-abbrev pub constant_too_large : ℕ → Refusal
-constant_too_large place = record { code = 6; file = left_file; p = place; q = 0 }
-
--- 7: one item too many (SPECIFICATION 4.5)
-abbrev pub too_many_items : ℕ → Refusal
-too_many_items place = record { code = 7; file = left_file; p = place; q = 0 }
-
--- 8: a channel that has both marks (SPECIFICATION 3.6, 4.5)
-abbrev pub other_mark : ℕ → Refusal
-other_mark place = record { code = 8; file = left_file; p = place; q = 0 }
-
--- 9: more states than the limit (SPECIFICATION 6.5)
-abbrev pub too_many_states : ℕ → Refusal
-too_many_states states = record { code = 9; file = left_file; p = states; q = 0 }
-
--- 10: a state in which an input has no move (SPECIFICATION 7.2)
-abbrev pub input_without_move : ℕ → ℕ → Refusal
-input_without_move state channel = record { code = 10; file = left_file; p = state; q = channel }
-
--- 11: a state in which two edges give moves by one channel that lead to different states (SPECIFICATION 7.2)
-abbrev pub two_edges : ℕ → ℕ → Refusal
-two_edges state channel = record { code = 11; file = left_file; p = state; q = channel }
-
--- 12: a channel that the two texts do not have alike (SPECIFICATION 9.1)
-abbrev pub unmatched_channel : ℕ → ℕ → Refusal
-unmatched_channel file channel = record { code = 12; file = file; p = channel; q = 0 }
-
--- 13: too few bytes of keep (SPECIFICATION 8.4)
-abbrev pub keep_too_short : ℕ → Refusal
-keep_too_short bytes = record { code = 13; file = no_file; p = bytes; q = 0 }
-
--- 14: too few bytes for the widest table (SPECIFICATION 12.6)
-abbrev pub table_too_short : ℕ → Refusal
-table_too_short bytes = record { code = 14; file = no_file; p = bytes; q = 0 }
-
--- 15: too few entries of back or of line (SPECIFICATION 12.4)
-abbrev pub queue_too_short : ℕ → Refusal
-queue_too_short entries = record { code = 15; file = no_file; p = entries; q = 0 }
-
--- 16: a given table that is not laid out for these two texts (SPECIFICATION 11.1, 11.2)
-abbrev pub other_table : Refusal
-other_table = record { code = 16; file = no_file; p = 0; q = 0 }
-
--- 17: a left text whose start is not among its safe states (SPECIFICATION 8.3)
-abbrev pub start_not_safe : ℕ → Refusal
-start_not_safe start = record { code = 17; file = left_file; p = start; q = 0 }
-
--- 18: a given table without the pair of starts (SPECIFICATION 11.5)
-abbrev pub start_pair_not_set : ℕ → ℕ → Refusal
-start_pair_not_set s t = record { code = 18; file = no_file; p = s; q = t }
-
--- 19: a pair in a given table that its s or its t alone rules out (SPECIFICATION 11.5)
-abbrev pub pair_not_allowed : ℕ → ℕ → Refusal
-pair_not_allowed s t = record { code = 19; file = no_file; p = s; q = t }
-
--- 20: a pair in a given table that fails the rules for a step; `width` is W (SPECIFICATION 11.5)
-abbrev pub rule_broken : ℕ → ℕ → ℕ → ℕ → Refusal
-rule_broken width step s t = record { code = 20; file = no_file; p = step; q = s * width + t }
-
--- 21: a departure that is longer than the run slice (SPECIFICATION 12.4)
-abbrev pub run_too_short : ℕ → Refusal
-run_too_short n = record { code = 21; file = no_file; p = n; q = 0 }
-
--- 22: a reachable state in which an output and a tick are both possible (SPECIFICATION 12.9)
-abbrev pub output_beside_tick : ℕ → ℕ → Refusal
-output_beside_tick state channel = record { code = 22; file = left_file; p = state; q = channel }
-
--- 23: a reachable state in which neither is possible (SPECIFICATION 12.9)
-abbrev pub neither_possible : ℕ → Refusal
-neither_possible state = record { code = 23; file = left_file; p = state; q = 0 }
-
--- 24: a tick length that is not allowed (SPECIFICATION 4.7)
-abbrev pub tick_out_of_range : ℕ → Refusal
-tick_out_of_range period = record { code = 24; file = no_file; p = period; q = 0 }
-
--- 25: two texts whose joined text would pass a limit (SPECIFICATION 18.8)
-abbrev pub limit_exceeded : Refusal
-limit_exceeded = record { code = 25; file = no_file; p = 0; q = 0 }
-
--- 26: too few bytes for the joined text (SPECIFICATION 18.9)
-abbrev pub out_too_short : ℕ → Refusal
-out_too_short bytes = record { code = 26; file = no_file; p = bytes; q = 0 }
+abbrev pub in_file : File → Refusal → Refusal
+in_file f (TextTooLong _) = TextTooLong f
+in_file f (Misfit _ place) = Misfit f place
+in_file f (NameTooLong _ place) = NameTooLong f place
+in_file f (DeclaredBefore _ place) = DeclaredBefore f place
+in_file f (UnknownName _ place) = UnknownName f place
+in_file f (ConstantTooLarge _ place) = ConstantTooLarge f place
+in_file f (TooManyItems _ place) = TooManyItems f place
+in_file f (OtherMark _ place) = OtherMark f place
+in_file f (TooManyStates _ states) = TooManyStates f states
+in_file f (InputWithoutMove _ state channel) = InputWithoutMove f state channel
+in_file f (TwoEdges _ state channel) = TwoEdges f state channel
+in_file f (UnmatchedChannel _ channel) = UnmatchedChannel f channel
+in_file f (KeepTooShort bytes) = KeepTooShort bytes
+in_file f (TableTooShort bytes) = TableTooShort bytes
+in_file f (QueueTooShort entries) = QueueTooShort entries
+in_file f OtherTable = OtherTable
+in_file f (StartNotSafe start) = StartNotSafe start
+in_file f (StartPairNotSet s t) = StartPairNotSet s t
+in_file f (PairNotAllowed s t) = PairNotAllowed s t
+in_file f (RuleBroken step pair) = RuleBroken step pair
+in_file f (RunTooShort steps) = RunTooShort steps
+in_file f (OutputBesideTick _ state channel) = OutputBesideTick f state channel
+in_file f (NeitherPossible _ state) = NeitherPossible f state
+in_file f (TickOutOfRange period) = TickOutOfRange period
+in_file f LimitExceeded = LimitExceeded
+in_file f (OutTooShort bytes) = OutTooShort bytes

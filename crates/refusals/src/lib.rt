@@ -1,332 +1,293 @@
-// A refusal: code, file mark, p and q (SPECIFICATION 13.1, 13.2). Each is made by a function of its own.
+// A refusal, and its four numbers: code, file mark, p and q (SPECIFICATION 13.1, 13.2).
 #![tactic(auto)]
 
 ghost use Rattle.std.specs.Prelude.{◌≡◌, ◌≤◌, ◌<◌};
 ghost use Rattle.limits.specs.Limits.{state_limit};
-ghost use Rattle.refusals.specs.Refusals.{in_file, text_too_long, misfit, name_too_long, declared_before, unknown_name, constant_too_large, too_many_items, other_mark, too_many_states, input_without_move, two_edges, unmatched_channel, keep_too_short, table_too_short, queue_too_short, other_table, start_not_safe, start_pair_not_set, pair_not_allowed, rule_broken, run_too_short, output_beside_tick, neither_possible, tick_out_of_range, limit_exceeded, out_too_short};
+ghost use Rattle.refusals.specs.Refusals.{mark, code, file, p, q, in_file, rule_broken};
 
+use std::fmt;
 use steps::Step;
 
-// The file that a refusal concerns: the left or only text, the right text, or none (SPECIFICATION 13.2).
-pub const LEFT_FILE: usize = 1;
-
-pub const RIGHT_FILE: usize = 2;
-
-pub const NO_FILE: usize = 0;
-
-// `code` is 1 to 26; `file` is one of the marks above.
-#[derive(Clone, Copy)]
-pub struct Refusal {
-    pub code: usize,
-    pub file: usize,
-    pub p: usize,
-    pub q: usize,
+// The file that a refusal concerns: none, the left or only text, the right text (SPECIFICATION 13.2).
+#[derive(Clone, Copy, PartialEq, Eq, Debug)]
+pub enum File {
+    None,
+    Left,
+    Right,
 }
 
-// Whether something is accepted, or how it is refused.
-#[derive(Clone, Copy)]
-pub enum Verdict {
-    Accepted,
-    Refused(Refusal),
+impl File {
+    pub fn mark(self) -> usize
+        ensures { result ≡ mark self }
+    {
+        match self {
+            File::None => 0,
+            File::Left => 1,
+            File::Right => 2,
+        }
+    }
+}
+
+// A variant for each code.
+#[derive(Clone, Copy, PartialEq, Eq, Debug)]
+pub enum Refusal {
+    // 1: a text over its limit (SPECIFICATION 4.5)
+    TextTooLong(File),
+    // 2: a token in a place where it does not fit (SPECIFICATION 4.5)
+    Misfit(File, usize),
+    // 3: a name over its limit (SPECIFICATION 4.5)
+    NameTooLong(File, usize),
+    // 4: a second declaration of a name (SPECIFICATION 4.5)
+    DeclaredBefore(File, usize),
+    // 5: the use of a name that has no declaration, or one of another kind (SPECIFICATION 4.5)
+    UnknownName(File, usize),
+    // 6: a constant over its limit (SPECIFICATION 4.5)
+    ConstantTooLarge(File, usize),
+    // 7: one item too many (SPECIFICATION 4.5)
+    TooManyItems(File, usize),
+    // 8: a channel that has both marks (SPECIFICATION 3.6, 4.5)
+    OtherMark(File, usize),
+    // 9: more states than the limit (SPECIFICATION 6.5)
+    TooManyStates(File, usize),
+    // 10: a state in which an input has no move (SPECIFICATION 7.2)
+    InputWithoutMove(File, usize, usize),
+    // 11: a state in which two edges give moves by one channel that lead to different states (SPECIFICATION 7.2)
+    TwoEdges(File, usize, usize),
+    // 12: a channel that the two texts do not have alike (SPECIFICATION 9.1)
+    UnmatchedChannel(File, usize),
+    // 13: too few bytes of keep (SPECIFICATION 8.4)
+    KeepTooShort(usize),
+    // 14: too few bytes for the widest table (SPECIFICATION 12.6)
+    TableTooShort(usize),
+    // 15: too few entries of back or of line (SPECIFICATION 12.4)
+    QueueTooShort(usize),
+    // 16: a given table that is not laid out for these two texts (SPECIFICATION 11.1, 11.2)
+    OtherTable,
+    // 17: a left text whose start is not among its safe states (SPECIFICATION 8.3)
+    StartNotSafe(usize),
+    // 18: a given table without the pair of starts (SPECIFICATION 11.5)
+    StartPairNotSet(usize, usize),
+    // 19: a pair in a given table that its s or its t alone rules out (SPECIFICATION 11.5)
+    PairNotAllowed(usize, usize),
+    // 20: a pair in a given table that fails the rules for a step (SPECIFICATION 11.5)
+    RuleBroken(Step, usize),
+    // 21: a departure that is longer than the run slice (SPECIFICATION 12.4)
+    RunTooShort(usize),
+    // 22: a reachable state in which an output and a tick are both possible (SPECIFICATION 12.9)
+    OutputBesideTick(File, usize, usize),
+    // 23: a reachable state in which neither is possible (SPECIFICATION 12.9)
+    NeitherPossible(File, usize),
+    // 24: a tick length that is not allowed (SPECIFICATION 4.7)
+    TickOutOfRange(usize),
+    // 25: two texts whose joined text would pass a limit (SPECIFICATION 18.8)
+    LimitExceeded,
+    // 26: too few bytes for the joined text (SPECIFICATION 18.9)
+    OutTooShort(usize),
 }
 
 impl Refusal {
-    // The same refusal for another file: a text is read as the only one, and may be the right one of two.
-    pub fn in_file(self, file: usize) -> Refusal
-        ensures { result ≡ in_file file self }
-    {
-        Refusal {
-            code: self.code,
-            file,
-            p: self.p,
-            q: self.q,
-        }
-    }
-
-    pub fn text_too_long() -> Refusal
-        ensures { result ≡ text_too_long }
-    {
-        Refusal {
-            code: 1,
-            file: LEFT_FILE,
-            p: 0,
-            q: 0,
-        }
-    }
-
-    pub fn misfit(place: usize) -> Refusal
-        ensures { result ≡ misfit place }
-    {
-        Refusal {
-            code: 2,
-            file: LEFT_FILE,
-            p: place,
-            q: 0,
-        }
-    }
-
-    pub fn name_too_long(place: usize) -> Refusal
-        ensures { result ≡ name_too_long place }
-    {
-        Refusal {
-            code: 3,
-            file: LEFT_FILE,
-            p: place,
-            q: 0,
-        }
-    }
-
-    pub fn declared_before(place: usize) -> Refusal
-        ensures { result ≡ declared_before place }
-    {
-        Refusal {
-            code: 4,
-            file: LEFT_FILE,
-            p: place,
-            q: 0,
-        }
-    }
-
-    pub fn unknown_name(place: usize) -> Refusal
-        ensures { result ≡ unknown_name place }
-    {
-        Refusal {
-            code: 5,
-            file: LEFT_FILE,
-            p: place,
-            q: 0,
-        }
-    }
-
-    pub fn constant_too_large(place: usize) -> Refusal
-        ensures { result ≡ constant_too_large place }
-    {
-        Refusal {
-            code: 6,
-            file: LEFT_FILE,
-            p: place,
-            q: 0,
-        }
-    }
-
-    pub fn too_many_items(place: usize) -> Refusal
-        ensures { result ≡ too_many_items place }
-    {
-        Refusal {
-            code: 7,
-            file: LEFT_FILE,
-            p: place,
-            q: 0,
-        }
-    }
-
-    pub fn other_mark(place: usize) -> Refusal
-        ensures { result ≡ other_mark place }
-    {
-        Refusal {
-            code: 8,
-            file: LEFT_FILE,
-            p: place,
-            q: 0,
-        }
-    }
-
-    pub fn too_many_states(states: usize) -> Refusal
-        ensures { result ≡ too_many_states states }
-    {
-        Refusal {
-            code: 9,
-            file: LEFT_FILE,
-            p: states,
-            q: 0,
-        }
-    }
-
-    pub fn input_without_move(state: usize, channel: usize) -> Refusal
-        ensures { result ≡ input_without_move state channel }
-    {
-        Refusal {
-            code: 10,
-            file: LEFT_FILE,
-            p: state,
-            q: channel,
-        }
-    }
-
-    pub fn two_edges(state: usize, channel: usize) -> Refusal
-        ensures { result ≡ two_edges state channel }
-    {
-        Refusal {
-            code: 11,
-            file: LEFT_FILE,
-            p: state,
-            q: channel,
-        }
-    }
-
-    pub fn unmatched_channel(file: usize, channel: usize) -> Refusal
-        ensures { result ≡ unmatched_channel file channel }
-    {
-        Refusal {
-            code: 12,
-            file,
-            p: channel,
-            q: 0,
-        }
-    }
-
-    pub fn keep_too_short(bytes: usize) -> Refusal
-        ensures { result ≡ keep_too_short bytes }
-    {
-        Refusal {
-            code: 13,
-            file: NO_FILE,
-            p: bytes,
-            q: 0,
-        }
-    }
-
-    pub fn table_too_short(bytes: usize) -> Refusal
-        ensures { result ≡ table_too_short bytes }
-    {
-        Refusal {
-            code: 14,
-            file: NO_FILE,
-            p: bytes,
-            q: 0,
-        }
-    }
-
-    pub fn queue_too_short(entries: usize) -> Refusal
-        ensures { result ≡ queue_too_short entries }
-    {
-        Refusal {
-            code: 15,
-            file: NO_FILE,
-            p: entries,
-            q: 0,
-        }
-    }
-
-    pub fn other_table() -> Refusal
-        ensures { result ≡ other_table }
-    {
-        Refusal {
-            code: 16,
-            file: NO_FILE,
-            p: 0,
-            q: 0,
-        }
-    }
-
-    pub fn start_not_safe(start: usize) -> Refusal
-        ensures { result ≡ start_not_safe start }
-    {
-        Refusal {
-            code: 17,
-            file: LEFT_FILE,
-            p: start,
-            q: 0,
-        }
-    }
-
-    pub fn start_pair_not_set(s: usize, t: usize) -> Refusal
-        ensures { result ≡ start_pair_not_set s t }
-    {
-        Refusal {
-            code: 18,
-            file: NO_FILE,
-            p: s,
-            q: t,
-        }
-    }
-
-    pub fn pair_not_allowed(s: usize, t: usize) -> Refusal
-        ensures { result ≡ pair_not_allowed s t }
-    {
-        Refusal {
-            code: 19,
-            file: NO_FILE,
-            p: s,
-            q: t,
-        }
-    }
-
+    // A pair that fails the rules for a step, by its number in a table that is `width` wide.
     pub fn rule_broken(width: usize, step: Step, s: usize, t: usize) -> Refusal
         requires { (width ≤ state_limit) × ((s < state_limit) × (t < width)) }
-        ensures { result ≡ rule_broken width step.number s t }
+        ensures { result ≡ rule_broken width step s t }
     {
-        Refusal {
-            code: 20,
-            file: NO_FILE,
-            p: step.number,
-            q: s * width + t,
+        Refusal::RuleBroken(step, s * width + t)
+    }
+
+    pub fn code(self) -> usize
+        ensures { result ≡ code self }
+    {
+        match self {
+            Refusal::TextTooLong(_) => 1,
+            Refusal::Misfit(..) => 2,
+            Refusal::NameTooLong(..) => 3,
+            Refusal::DeclaredBefore(..) => 4,
+            Refusal::UnknownName(..) => 5,
+            Refusal::ConstantTooLarge(..) => 6,
+            Refusal::TooManyItems(..) => 7,
+            Refusal::OtherMark(..) => 8,
+            Refusal::TooManyStates(..) => 9,
+            Refusal::InputWithoutMove(..) => 10,
+            Refusal::TwoEdges(..) => 11,
+            Refusal::UnmatchedChannel(..) => 12,
+            Refusal::KeepTooShort(_) => 13,
+            Refusal::TableTooShort(_) => 14,
+            Refusal::QueueTooShort(_) => 15,
+            Refusal::OtherTable => 16,
+            Refusal::StartNotSafe(_) => 17,
+            Refusal::StartPairNotSet(..) => 18,
+            Refusal::PairNotAllowed(..) => 19,
+            Refusal::RuleBroken(..) => 20,
+            Refusal::RunTooShort(_) => 21,
+            Refusal::OutputBesideTick(..) => 22,
+            Refusal::NeitherPossible(..) => 23,
+            Refusal::TickOutOfRange(_) => 24,
+            Refusal::LimitExceeded => 25,
+            Refusal::OutTooShort(_) => 26,
         }
     }
 
-    pub fn run_too_short(n: usize) -> Refusal
-        ensures { result ≡ run_too_short n }
+    pub fn file(self) -> File
+        ensures { result ≡ file self }
     {
-        Refusal {
-            code: 21,
-            file: NO_FILE,
-            p: n,
-            q: 0,
+        match self {
+            Refusal::TextTooLong(file)
+            | Refusal::Misfit(file, _)
+            | Refusal::NameTooLong(file, _)
+            | Refusal::DeclaredBefore(file, _)
+            | Refusal::UnknownName(file, _)
+            | Refusal::ConstantTooLarge(file, _)
+            | Refusal::TooManyItems(file, _)
+            | Refusal::OtherMark(file, _)
+            | Refusal::TooManyStates(file, _)
+            | Refusal::InputWithoutMove(file, _, _)
+            | Refusal::TwoEdges(file, _, _)
+            | Refusal::UnmatchedChannel(file, _)
+            | Refusal::OutputBesideTick(file, _, _)
+            | Refusal::NeitherPossible(file, _) => file,
+            Refusal::StartNotSafe(_) => File::Left,
+            _ => File::None,
         }
     }
 
-    pub fn output_beside_tick(state: usize, channel: usize) -> Refusal
-        ensures { result ≡ output_beside_tick state channel }
+    pub fn p(self) -> usize
+        ensures { result ≡ p self }
     {
-        Refusal {
-            code: 22,
-            file: LEFT_FILE,
-            p: state,
-            q: channel,
+        match self {
+            Refusal::Misfit(_, place)
+            | Refusal::NameTooLong(_, place)
+            | Refusal::DeclaredBefore(_, place)
+            | Refusal::UnknownName(_, place)
+            | Refusal::ConstantTooLarge(_, place)
+            | Refusal::TooManyItems(_, place)
+            | Refusal::OtherMark(_, place) => place,
+            Refusal::TooManyStates(_, states) => states,
+            Refusal::InputWithoutMove(_, state, _)
+            | Refusal::TwoEdges(_, state, _)
+            | Refusal::OutputBesideTick(_, state, _)
+            | Refusal::NeitherPossible(_, state) => state,
+            Refusal::UnmatchedChannel(_, channel) => channel,
+            Refusal::KeepTooShort(bytes)
+            | Refusal::TableTooShort(bytes)
+            | Refusal::OutTooShort(bytes) => bytes,
+            Refusal::QueueTooShort(entries) => entries,
+            Refusal::StartNotSafe(start) => start,
+            Refusal::StartPairNotSet(s, _) | Refusal::PairNotAllowed(s, _) => s,
+            Refusal::RuleBroken(step, _) => step.number,
+            Refusal::RunTooShort(steps) => steps,
+            Refusal::TickOutOfRange(period) => period,
+            Refusal::TextTooLong(_) | Refusal::OtherTable | Refusal::LimitExceeded => 0,
         }
     }
 
-    pub fn neither_possible(state: usize) -> Refusal
-        ensures { result ≡ neither_possible state }
+    pub fn q(self) -> usize
+        ensures { result ≡ q self }
     {
-        Refusal {
-            code: 23,
-            file: LEFT_FILE,
-            p: state,
-            q: 0,
+        match self {
+            Refusal::InputWithoutMove(_, _, channel)
+            | Refusal::TwoEdges(_, _, channel)
+            | Refusal::OutputBesideTick(_, _, channel) => channel,
+            Refusal::StartPairNotSet(_, t) | Refusal::PairNotAllowed(_, t) => t,
+            Refusal::RuleBroken(_, pair) => pair,
+            _ => 0,
         }
     }
 
-    pub fn tick_out_of_range(period: usize) -> Refusal
-        ensures { result ≡ tick_out_of_range period }
+    // The same refusal for another file: a text is read as the only one, and may be the right one of two.
+    pub fn in_file(self, file: File) -> Refusal
+        ensures { result ≡ in_file file self }
     {
-        Refusal {
-            code: 24,
-            file: NO_FILE,
-            p: period,
-            q: 0,
+        match self {
+            Refusal::TextTooLong(_) => Refusal::TextTooLong(file),
+            Refusal::Misfit(_, place) => Refusal::Misfit(file, place),
+            Refusal::NameTooLong(_, place) => Refusal::NameTooLong(file, place),
+            Refusal::DeclaredBefore(_, place) => Refusal::DeclaredBefore(file, place),
+            Refusal::UnknownName(_, place) => Refusal::UnknownName(file, place),
+            Refusal::ConstantTooLarge(_, place) => Refusal::ConstantTooLarge(file, place),
+            Refusal::TooManyItems(_, place) => Refusal::TooManyItems(file, place),
+            Refusal::OtherMark(_, place) => Refusal::OtherMark(file, place),
+            Refusal::TooManyStates(_, states) => Refusal::TooManyStates(file, states),
+            Refusal::InputWithoutMove(_, state, channel) => Refusal::InputWithoutMove(
+                file, state, channel,
+            ),
+            Refusal::TwoEdges(_, state, channel) => Refusal::TwoEdges(file, state, channel),
+            Refusal::UnmatchedChannel(_, channel) => Refusal::UnmatchedChannel(file, channel),
+            Refusal::OutputBesideTick(_, state, channel) => Refusal::OutputBesideTick(
+                file, state, channel,
+            ),
+            Refusal::NeitherPossible(_, state) => Refusal::NeitherPossible(file, state),
+            other => other,
         }
     }
+}
 
-    pub fn limit_exceeded() -> Refusal
-        ensures { result ≡ limit_exceeded }
-    {
-        Refusal {
-            code: 25,
-            file: NO_FILE,
-            p: 0,
-            q: 0,
-        }
-    }
-
-    pub fn out_too_short(bytes: usize) -> Refusal
-        ensures { result ≡ out_too_short bytes }
-    {
-        Refusal {
-            code: 26,
-            file: NO_FILE,
-            p: bytes,
-            q: 0,
+// For people: C and the programs read the numbers.
+impl fmt::Display for Refusal {
+    fn fmt<W: fmt::Write>(&self, f: &mut fmt::Formatter<W>) -> fmt::Result {
+        match *self {
+            Refusal::TextTooLong(_) => write!(f, "a text over its limit"),
+            Refusal::Misfit(_, p) => write!(f, "a token in a place where it does not fit: {p}"),
+            Refusal::NameTooLong(_, p) => write!(f, "a name over its limit: {p}"),
+            Refusal::DeclaredBefore(_, p) => write!(f, "a second declaration of a name: {p}"),
+            Refusal::UnknownName(_, p) => write!(
+                f,
+                "the use of a name that has no declaration, or one of another kind: {p}"
+            ),
+            Refusal::ConstantTooLarge(_, p) => write!(f, "a constant over its limit: {p}"),
+            Refusal::TooManyItems(_, p) => write!(f, "one item too many: {p}"),
+            Refusal::OtherMark(_, p) => write!(f, "a channel that has both marks: {p}"),
+            Refusal::TooManyStates(_, p) => write!(f, "more states than the limit: {p}"),
+            Refusal::InputWithoutMove(_, p, q) => write!(
+                f,
+                "a state in which an input has no move: {p} {q}"
+            ),
+            Refusal::TwoEdges(_, p, q) => write!(
+                f,
+                "a state in which two edges give moves by one channel that lead to different states: {p} {q}"
+            ),
+            Refusal::UnmatchedChannel(_, p) => write!(
+                f,
+                "a channel that the two texts do not have alike: {p}"
+            ),
+            Refusal::KeepTooShort(p) => write!(f, "too few bytes of keep: {p}"),
+            Refusal::TableTooShort(p) => write!(f, "too few bytes for the widest table: {p}"),
+            Refusal::QueueTooShort(p) => write!(f, "too few entries of back or of line: {p}"),
+            Refusal::OtherTable => write!(
+                f,
+                "a given table that is not laid out for these two texts"
+            ),
+            Refusal::StartNotSafe(p) => write!(
+                f,
+                "a left text whose start is not among its safe states: {p}"
+            ),
+            Refusal::StartPairNotSet(p, q) => write!(
+                f,
+                "a given table without the pair of starts: {p} {q}"
+            ),
+            Refusal::PairNotAllowed(p, q) => write!(
+                f,
+                "a pair in a given table that its s or its t alone rules out: {p} {q}"
+            ),
+            Refusal::RuleBroken(step, q) => write!(
+                f,
+                "a pair in a given table that fails the rules for a step: {} {q}",
+                step.number
+            ),
+            Refusal::RunTooShort(p) => write!(
+                f,
+                "a departure that is longer than the run slice: {p}"
+            ),
+            Refusal::OutputBesideTick(_, p, q) => write!(
+                f,
+                "a reachable state in which an output and a tick are both possible: {p} {q}"
+            ),
+            Refusal::NeitherPossible(_, p) => write!(
+                f,
+                "a reachable state in which neither is possible: {p}"
+            ),
+            Refusal::TickOutOfRange(p) => write!(f, "a tick length that is not allowed: {p}"),
+            Refusal::LimitExceeded => write!(f, "two texts whose joined text would pass a limit"),
+            Refusal::OutTooShort(p) => write!(f, "too few bytes for the joined text: {p}"),
         }
     }
 }

@@ -1,6 +1,6 @@
 -- The scan of slices finds what specs/Judged.antt finds in a table's pairs (SPECIFICATION 11.5), and it passes exactly
 -- where the theory's check does.
-use Rattle.std.specs.Prelude.{◌≡◌, refl, ◌↔◌, ◌⊎◌, Bool, true, false, ◌&&◌, cond, List, ℕ, zero, suc, ◌+◌, ◌*◌, ◌≤◌, ◌<◌, ltb, get_or}
+use Rattle.std.specs.Prelude.{◌≡◌, refl, ◌↔◌, ◌⊎◌, Bool, true, false, ◌&&◌, cond, List, ℕ, zero, suc, ◌+◌, ◌*◌, ◌≤◌, ◌<◌, get_or, Result, Ok, Err, ⊤}
 use Rattle.std.proofs.Math.Path.{sym, subst, ap}
 use Rattle.std.proofs.Common.{◌∙◌, inl, inr, arith, T_not, lt-ltb, le-ltb}
 use Rattle.std.proofs.Math.Logic.{⊎_elim}
@@ -9,12 +9,11 @@ use Rattle.std.proofs.Math.Option.{Option, none, some}
 use Rattle.std.proofs.Math.Decide.{ℕ_discrete}
 use Rattle.std.proofs.Math.Dec.{T}
 use Rattle.systems.specs.Bools.{T_dec, all_elim, all_intro, and_T, and_both, least_passes, none_some}
-use Rattle.systems.specs.Tests.{all, stays, lands, least, ◌⇒◌, at}
+use Rattle.systems.specs.Tests.{all, stays, lands, least, ◌⇒◌}
 use Rattle.systems.specs.Definitions.{Signature}
 use Rattle.systems.specs.Finite.{FiniteSystem, State, safe, pruned, step_ok, input_ok, own_ok, pair_ok, entry_ok, check}
 use Rattle.systems.proofs.Safe.{safe_state, safe_keeps}
 use Rattle.systems.proofs.Departure.{pruned_intro}
-use Rattle.steps.specs.declared.Step.{Step}
 use Rattle.bitmaps.specs.BitLaws.{less}
 use Rattle.bitmaps.specs.PackedLaws.{packed_bit}
 use Rattle.move_tables.specs.Moves.{decode}
@@ -27,9 +26,8 @@ use Rattle.tables_cut.specs.Rule.{ok_of}
 use Rattle.tables_check.specs.Scan.{fails_at, first_bad, fault_at}
 use Rattle.tables_check.specs.Judged.{breaks, least_broken, pair_fault, pairs_judged, NoFault, LowestFault}
 use Rattle.tables_check.specs.declared.Fault.{Fault}
-use Rattle.tables_check.specs.declared.Fault.TheVariants.{Fine, NotAllowed, Broken}
-use Rattle.tables_check.specs.declared.Found.{Found}
-use Rattle.tables_check.specs.declared.Found.TheVariants.{Passed}
+use Rattle.tables_check.specs.declared.Fault.TheVariants.{NotAllowed, Broken}
+use Rattle.tables_check.specs.declared.FailedPair.{FailedPair}
 
 and_true : (b : Bool) → (b && true) ≡ b
 and_true true = refl
@@ -85,59 +83,55 @@ module _ (lm rm : List ℕ) (w steps : ℕ) (k : List ℕ) (s t : ℕ) where
       (omega (arith, (least_passes (fails_at lm rm w steps k s t) 0 steps c (omega arith) (omega arith) b).1)))
       (T_dec (ok_of w k (get_or lm (s * steps + c) 0) (get_or rm (t * steps + c) 0)))
 
-not_fine : (c : Step) → Broken c ≡ Fine → ⊥
+not_fine : (f : Fault) → ◌≡◌ {A = Result ⊤ Fault} (Err f) (Ok tt) → ⊥
 not_fine c e = let z : ◌≡◌ {A = ℕ} 0 1 = cc in omega arith
 
-not_fine_either : NotAllowed ≡ Fine → ⊥
-not_fine_either e = let z : ◌≡◌ {A = ℕ} 0 1 = cc in omega arith
-
 -- no step breaks a rule exactly if each is fine
-step_fine : (p : ℕ → Bool) (n : ℕ) → step_fault n (least (λ c. not (p c)) 0 n) ≡ Fine ↔ T (all n p)
+step_fine : (p : ℕ → Bool) (n : ℕ) → step_fault n (least (λ c. not (p c)) 0 n) ≡ Ok tt ↔ T (all n p)
 unfolding step_fault
 step_fine p n = (forth, back)
   where
     m : ℕ
     m = least (λ c. not (p c)) 0 n
 
-    forth : cond (ltb m n) (Broken (step m)) Fine ≡ Fine → T (all n p)
+    forth : step_fault n m ≡ Ok tt → T (all n p)
     forth e = all_intro n p (λ c h. ⊎_elim (λ t. t) (λ t. absurd (bad c h t)) (T_dec (p c)))
       where
         bad : (c : ℕ) → c < n → T (not (p c)) → ⊥
         bad c h t =
             let below : m < n = omega (arith, (least_passes (λ c. not (p c)) 0 n c (omega arith) (omega arith) t).1) in
-            not_fine (step m) (sym (ap (λ (b : Bool). cond b (Broken (step m)) Fine) (lt-ltb m n below)) ∙ e)
+            not_fine (Broken (step m)) (sym (ap (λ (b : Bool). cond {A = Result ⊤ Fault} b (Err (Broken (step m)))
+            (Ok tt)) (lt-ltb m n below)) ∙ e)
 
-    back : T (all n p) → cond (ltb m n) (Broken (step m)) Fine ≡ Fine
+    back : T (all n p) → step_fault n m ≡ Ok tt
     back a = ⊎_elim (λ h. absurd (T_not (p m) (least_found (λ c. not (p c)) 0 n (omega arith)) (all_elim n p a m h)))
         (λ h. rw (le-ltb m n h)) (less m n)
 
 -- one row: no pair of it fails and the later rows decide, or its first pair that fails does
-data Row (f : ℕ → ℕ → Fault) (s m t : ℕ) (rest x : Found) : Type 0 where
-  clear : x ≡ rest → ((j : ℕ) → t ≤ j → j < t + m → f s j ≡ Fine) → Row f s m t rest x
-  stopped : (j : ℕ) → t ≤ j → j < t + m → (f s j ≡ Fine → ⊥) → ((i : ℕ) → t ≤ i → i < j → f s i ≡ Fine)
-      → x ≡ picked (f s j) s j Passed → Row f s m t rest x
+data Row (f : ℕ → ℕ → Result ⊤ Fault) (s m t : ℕ) (rest x : Result ⊤ FailedPair) : Type 0 where
+  clear : x ≡ rest → ((j : ℕ) → t ≤ j → j < t + m → f s j ≡ Ok tt) → Row f s m t rest x
+  stopped : (j : ℕ) → t ≤ j → j < t + m → (f s j ≡ Ok tt → ⊥) → ((i : ℕ) → t ≤ i → i < j → f s i ≡ Ok tt)
+      → x ≡ picked (f s j) s j (Ok tt) → Row f s m t rest x
 
 -- m rows from s on, the same
-data Rows (f : ℕ → ℕ → Fault) (w m s : ℕ) (x : Found) : Type 0 where
-  passed : x ≡ Passed → ((i j : ℕ) → s ≤ i → i < s + m → j < w → f i j ≡ Fine) → Rows f w m s x
-  failed : (i j : ℕ) → s ≤ i → i < s + m → j < w → (f i j ≡ Fine → ⊥)
-      → ((a b : ℕ) → s ≤ a → a < i → b < w → f a b ≡ Fine) → ((b : ℕ) → b < j → f i b ≡ Fine)
-      → x ≡ picked (f i j) i j Passed → Rows f w m s x
+data Rows (f : ℕ → ℕ → Result ⊤ Fault) (w m s : ℕ) (x : Result ⊤ FailedPair) : Type 0 where
+  passed : x ≡ Ok tt → ((i j : ℕ) → s ≤ i → i < s + m → j < w → f i j ≡ Ok tt) → Rows f w m s x
+  failed : (i j : ℕ) → s ≤ i → i < s + m → j < w → (f i j ≡ Ok tt → ⊥)
+      → ((a b : ℕ) → s ≤ a → a < i → b < w → f a b ≡ Ok tt) → ((b : ℕ) → b < j → f i b ≡ Ok tt)
+      → x ≡ picked (f i j) i j (Ok tt) → Rows f w m s x
 
-fine_or_not : (f : Fault) → (f ≡ Fine) ⊎ (f ≡ Fine → ⊥)
-fine_or_not Fine = inl refl
-fine_or_not NotAllowed = inr not_fine_either
-fine_or_not (Broken c) = inr (not_fine c)
+fine_or_not : (f : Result ⊤ Fault) → (f ≡ Ok tt) ⊎ (f ≡ Ok tt → ⊥)
+fine_or_not (Ok fine) = inl refl
+fine_or_not (Err fault) = inr (not_fine fault)
 
-picked_rest : (f : Fault) (s t : ℕ) (rest : Found) → f ≡ Fine → picked f s t rest ≡ rest
+picked_rest : (f : Result ⊤ Fault) (s t : ℕ) (rest : Result ⊤ FailedPair) → f ≡ Ok tt → picked f s t rest ≡ rest
 unfolding picked
 picked_rest f s t rest e = rw e
 
-picked_any : (f : Fault) (s t : ℕ) (rest : Found) → (f ≡ Fine → ⊥) → picked f s t rest ≡ picked f s t Passed
+picked_any : (f : Result ⊤ Fault) (s t : ℕ) (rest : Result ⊤ FailedPair) → (f ≡ Ok tt → ⊥) → picked f s t rest ≡ picked f s t (Ok tt)
 unfolding picked
-picked_any Fine s t rest n = absurd (n refl)
-picked_any NotAllowed s t rest n = refl
-picked_any (Broken c) s t rest n = refl
+picked_any (Ok fine) s t rest n = absurd (n refl)
+picked_any (Err fault) s t rest n = refl
 
 below_or_at : {P : ℕ → Type 0} (t : ℕ) → P t → ((i : ℕ) → t + 1 ≤ i → P i) → (i : ℕ) → t ≤ i → P i
 below_or_at {P} t here later i h =
@@ -147,7 +141,7 @@ below_or_at {P} t here later i h =
           (⊎_elim (λ l. absurd (e (omega arith))) (λ l. l) (less i (t + 1)))
     ]
 
-row_told : (f : ℕ → ℕ → Fault) (s m t : ℕ) (rest : Found) → Row f s m t rest (row_from f s m t rest)
+row_told : (f : ℕ → ℕ → Result ⊤ Fault) (s m t : ℕ) (rest : Result ⊤ FailedPair) → Row f s m t rest (row_from f s m t rest)
 unfolding row_from
 row_told f s zero t rest = clear refl (λ j a b. absurd (omega arith))
 row_told f s (suc m) t rest = ⊎_elim {C =
@@ -156,44 +150,44 @@ row_told f s (suc m) t rest = ⊎_elim {C =
     (λ n. stopped t (omega arith) (omega arith) n (λ i a b. absurd (omega arith))
     (picked_any (f s t) s t (row_from f s m (t + 1) rest) n)) (fine_or_not (f s t))
   where
-    fine : f s t ≡ Fine → Row f s m (t + 1) rest (row_from f s m (t + 1) rest)
+    fine : f s t ≡ Ok tt → Row f s m (t + 1) rest (row_from f s m (t + 1) rest)
         → Row f s (suc m) t rest (picked (f s t) s t (row_from f s m (t + 1) rest))
     fine e (clear x all) = clear (picked_rest (f s t) s t (row_from f s m (t + 1) rest) e ∙ x)
-        (λ j a b. below_or_at {P = λ i. i < t + suc m → f s i ≡ Fine} t (λ q. e) (λ i h q. all i h (omega arith)) j a
+        (λ j a b. below_or_at {P = λ i. i < t + suc m → f s i ≡ Ok tt} t (λ q. e) (λ i h q. all i h (omega arith)) j a
         b)
     fine e (stopped j a b n all x) =
         stopped j (omega arith) (omega arith) n
-        (λ i h l. below_or_at {P = λ i. i < j → f s i ≡ Fine} t (λ q. e) (λ i h q. all i h q) i h l)
+        (λ i h l. below_or_at {P = λ i. i < j → f s i ≡ Ok tt} t (λ q. e) (λ i h q. all i h q) i h l)
         (picked_rest (f s t) s t (row_from f s m (t + 1) rest) e ∙ x)
 
-rows_told : (f : ℕ → ℕ → Fault) (w m s : ℕ) → Rows f w m s (table_from f w m s)
+rows_told : (f : ℕ → ℕ → Result ⊤ Fault) (w m s : ℕ) → Rows f w m s (table_from f w m s)
 unfolding table_from
 rows_told f w zero s = passed refl (λ i j a b c. absurd (omega arith))
 rows_told f w (suc m) s = go (row_told f s w 0 (table_from f w m (s + 1))) (rows_told f w m (s + 1))
   where
-    rest : Found
+    rest : Result ⊤ FailedPair
     rest = table_from f w m (s + 1)
 
     go : Row f s w 0 rest (row_from f s w 0 rest) → Rows f w m (s + 1) rest → Rows f w (suc m) s (row_from f s w 0 rest)
     go (clear x row) (passed y all) =
         passed (x ∙ y) (λ i j a b c. below_or_at {P =
-        λ i. i < s + suc m → f i j ≡ Fine} s (λ q. row j (omega arith) (omega arith))
+        λ i. i < s + suc m → f i j ≡ Ok tt} s (λ q. row j (omega arith) (omega arith))
         (λ i h q. all i j h (omega arith) c) i a b)
     go (clear x row) (failed i j a b c n rows columns y) =
         failed i j (omega arith) (omega arith) c n
-        (λ p q h l k. below_or_at {P = λ p. p < i → f p q ≡ Fine} s (λ z. row q (omega arith) (omega arith))
+        (λ p q h l k. below_or_at {P = λ p. p < i → f p q ≡ Ok tt} s (λ z. row q (omega arith) (omega arith))
         (λ p h z. rows p q h z k) p h l) columns (x ∙ y)
     go (stopped j a b n row x) later =
         failed s j (omega arith) (omega arith) (omega arith) n (λ p q h l k. absurd (omega arith))
         (λ q l. row q (omega arith) l) x
 
 -- the scan passes and no pair fails, or it names the lowest pair that fails, by row, then column
-pub scan_told : (f : ℕ → ℕ → Fault) (n w : ℕ)
-    → ((table_from f w n 0 ≡ Passed) × NoFault f n w) ⊎ LowestFault f n w (table_from f w n 0)
+pub scan_told : (f : ℕ → ℕ → Result ⊤ Fault) (n w : ℕ)
+    → ((table_from f w n 0 ≡ Ok tt) × NoFault f n w) ⊎ LowestFault f n w (table_from f w n 0)
 scan_told f n w = go (rows_told f w n 0)
   where
     go : Rows f w n 0 (table_from f w n 0)
-        → ((table_from f w n 0 ≡ Passed) × NoFault f n w) ⊎ LowestFault f n w (table_from f w n 0)
+        → ((table_from f w n 0 ≡ Ok tt) × NoFault f n w) ⊎ LowestFault f n w (table_from f w n 0)
     go (passed x all) = inl (x, λ s t a b. all s t (omega arith) (omega arith) b)
     go (failed i j a b c n rows columns x) = inr (record {
       s = i;
@@ -206,14 +200,13 @@ scan_told f n w = go (rows_told f w n 0)
       named = x;
     })
 
-picked_stops : (f : Fault) (s t : ℕ) → (f ≡ Fine → ⊥) → picked f s t Passed ≡ Passed → ⊥
+picked_stops : (f : Result ⊤ Fault) (s t : ℕ) → (f ≡ Ok tt → ⊥) → picked f s t (Ok tt) ≡ Ok tt → ⊥
 unfolding picked
-picked_stops Fine s t n e = n refl
-picked_stops NotAllowed s t n e = let z : ◌≡◌ {A = ℕ} 0 1 = cc in omega arith
-picked_stops (Broken c) s t n e = let z : ◌≡◌ {A = ℕ} 0 1 = cc in omega arith
+picked_stops (Ok fine) s t n e = n refl
+picked_stops (Err fault) s t n e = let z : ◌≡◌ {A = ℕ} 0 1 = cc in omega arith
 
 -- the scan passes exactly if no pair fails
-pub scan_passes : (f : ℕ → ℕ → Fault) (n w : ℕ) → (table_from f w n 0 ≡ Passed) ↔ NoFault f n w
+pub scan_passes : (f : ℕ → ℕ → Result ⊤ Fault) (n w : ℕ) → (table_from f w n 0 ≡ Ok tt) ↔ NoFault f n w
 scan_passes f n w = (
   λ e. ⊎_elim (λ p. p.1) (λ low. absurd
       (picked_stops (f low.s low.t) low.s low.t low.fails (sym low.named ∙ e))) (scan_told f n w),
@@ -223,24 +216,24 @@ scan_passes f n w = (
 
 -- the fault of a pair and the test of it
 module _ {A : Signature} (L R : FiniteSystem A) (X : ℕ → ℕ → Bool) where
-  pub pair_fine : (s t : ℕ) → pair_fault L R X s t ≡ Fine ↔ T (entry_ok L R X s t)
+  pub pair_fine : (s t : ℕ) → pair_fault L R X s t ≡ Ok tt ↔ T (entry_ok L R X s t)
   unfolding pair_fault entry_ok least_broken breaks pair_ok ◌⇒◌
   pair_fine s t = go (X s t) (safe L s && R.holds t) (step_fine (step_ok A (pruned L) R.next X s t)
       (suc A.channels))
     where
-      broken : Fault
+      broken : Result ⊤ Fault
       broken = step_fault (suc A.channels) (least (λ c. not (step_ok A (pruned L) R.next X s t c)) 0
           (suc A.channels))
 
-      go : (x y : Bool) → (broken ≡ Fine ↔ T (all (suc A.channels) (step_ok A (pruned L) R.next X s t)))
-          → cond x (cond y broken NotAllowed) Fine ≡ Fine ↔ T
+      go : (x y : Bool) → (broken ≡ Ok tt ↔ T (all (suc A.channels) (step_ok A (pruned L) R.next X s t)))
+          → cond x (cond y broken (Err NotAllowed)) (Ok tt) ≡ Ok tt ↔ T
           (x ⇒ y && all (suc A.channels) (step_ok A (pruned L) R.next X s t))
       go false y f = (λ e. tt, λ t. refl)
-      go true false f = (λ e. absurd (not_fine_either e), λ t. absurd t)
+      go true false f = (λ e. absurd (not_fine NotAllowed e), λ t. absurd t)
       go true true f = f
 
   -- the scan passes exactly if every pair that is set has a safe s, a t whose invariant is true, and meets the rules
-  pub judged_passes : (pairs_judged L R X ≡ Passed) ↔ ((s t : ℕ) → s < L.size → t < R.size → T (entry_ok L R X s t))
+  pub judged_passes : (pairs_judged L R X ≡ Ok tt) ↔ ((s t : ℕ) → s < L.size → t < R.size → T (entry_ok L R X s t))
   unfolding pairs_judged
   judged_passes = (
     λ e s t a b. (pair_fine s t).0 ((scan_passes (pair_fault L R X) L.size R.size).0 e s t a b),
@@ -248,7 +241,7 @@ module _ {A : Signature} (L R : FiniteSystem A) (X : ℕ → ℕ → Bool) where
   )
 
   -- the theory's check: the start pair is set, and the scan passes
-  pub check_judged : T (check L R X) ↔ (T (X L.start R.start) × (pairs_judged L R X ≡ Passed))
+  pub check_judged : T (check L R X) ↔ (T (X L.start R.start) × (pairs_judged L R X ≡ Ok tt))
   unfolding check
   check_judged = (
     λ h.
@@ -263,7 +256,7 @@ module _ {A : Signature} (L R : FiniteSystem A) (X : ℕ → ℕ → Bool) where
   )
 
   -- the scan's answer otherwise: the lowest pair that fails, with its own fault
-  pub judged_lowest : ((pairs_judged L R X ≡ Passed) × NoFault (pair_fault L R X) L.size R.size) ⊎ LowestFault
+  pub judged_lowest : ((pairs_judged L R X ≡ Ok tt) × NoFault (pair_fault L R X) L.size R.size) ⊎ LowestFault
       (pair_fault L R X) L.size R.size (pairs_judged L R X)
   unfolding pairs_judged
   judged_lowest = scan_told (pair_fault L R X) L.size R.size
@@ -278,21 +271,22 @@ module _ {A : Signature} (L R : FiniteSystem A) (X : ℕ → ℕ → Bool) where
       let (u, f) = L.enabled s c (safe_state L s h) ti in
       (u, v, pruned_intro L s c u f ((safe_keeps L s h).inputs c u ti f), e))
 
-conds : (x y z : Bool) (a b : Fault) → (T y → T z → a ≡ b)
-    → cond x (cond y (cond z a NotAllowed) NotAllowed) Fine ≡ cond x (cond (y && z) b NotAllowed) Fine
+conds : (x y z : Bool) (a b : Result ⊤ Fault) → (T y → T z → a ≡ b)
+    → cond x (cond y (cond z a (Err NotAllowed)) (Err NotAllowed)) (Ok tt)
+    ≡ cond x (cond (y && z) b (Err NotAllowed)) (Ok tt)
 conds false y z a b e = refl
 conds true false z a b e = refl
 conds true true false a b e = refl
 conds true true true a b e = e tt tt
 
-row_same : (f g : ℕ → ℕ → Fault) (s m t : ℕ) (x y : Found) → x ≡ y → ((i : ℕ) → t ≤ i → i < t + m → f s i ≡ g s i)
+row_same : (f g : ℕ → ℕ → Result ⊤ Fault) (s m t : ℕ) (x y : Result ⊤ FailedPair) → x ≡ y → ((i : ℕ) → t ≤ i → i < t + m → f s i ≡ g s i)
     → row_from f s m t x ≡ row_from g s m t y
 unfolding row_from
 row_same f g s zero t x y e h = e
 row_same f g s (suc m) t x y e h =
     rw (h t (omega arith) (omega arith), row_same f g s m (t + 1) x y e (λ i a b. h i (omega arith) (omega arith)))
 
-table_same : (f g : ℕ → ℕ → Fault) (w m s : ℕ) → ((i t : ℕ) → s ≤ i → i < s + m → t < w → f i t ≡ g i t)
+table_same : (f g : ℕ → ℕ → Result ⊤ Fault) (w m s : ℕ) → ((i t : ℕ) → s ≤ i → i < s + m → t < w → f i t ≡ g i t)
     → table_from f w m s ≡ table_from g w m s
 unfolding table_from
 table_same f g w zero s h = refl

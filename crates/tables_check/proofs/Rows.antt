@@ -8,6 +8,7 @@ use native.Mathlib.Decide.{ℕ_discrete}
 use native.Mathlib.Omega.{arith}
 use lib.Bits.{bit_or, bit_xor, or_add_and, xor_add_and, and_le_l, and_le_r}
 use lib.ListN.{get_or}
+use Rattle.std.specs.Prelude.{Result, Ok, ⊤}
 use Rattle.systems.specs.Tests.{least}
 use Rattle.bitmaps.specs.Bits.{bit_at}
 use Rattle.bitmaps.specs.BitLaws.{less}
@@ -17,7 +18,6 @@ use Rattle.tables_runs.specs.Runs.{Within}
 use Rattle.tables_cut.specs.Rule.{fine, Loaded}
 use Rattle.tables_cut.specs.RuleLaws.{loaded_bit}
 use Rattle.tables_check.specs.declared.Fault.{Fault}
-use Rattle.tables_check.specs.declared.Fault.TheVariants.{Fine}
 use Rattle.tables_check.specs.Scan.{fails_at, first_bad, fault_at, Sifted, RowPasses}
 use Rattle.tables_check.proofs.Laws.{fault_unset, fault_rules, step_fine}
 
@@ -56,7 +56,7 @@ both true true e = (refl, refl)
 both true false e = (refl, e)
 both false b e = let z : ◌≡◌ {A = ℕ} 0 1 = cc in absurd (omega arith)
 
-pub passes_not : (f : ℕ → ℕ → Fault) (w s : ℕ) → RowPasses false f w s
+pub passes_not : (f : ℕ → ℕ → Result ⊤ Fault) (w s : ℕ) → RowPasses false f w s
 passes_not f w s = record { fine_at = λ e. let z : ◌≡◌ {A = ℕ} 0 1 = cc in absurd (omega arith) }
 
 -- no step that fails
@@ -100,17 +100,17 @@ module _ (lm rm : List ℕ) (w steps : ℕ) (k : List ℕ) (s : ℕ) where
 
     -- a row in which nothing is set
     pub passes_empty : {row : List ℕ} {from to : ℕ} → Loaded w k s row → Within w row from to → from ≡ to → (t : ℕ)
-        → t < w → fault_at lm rm keep holds w steps k s t ≡ Fine
+        → t < w → fault_at lm rm keep holds w steps k s t ≡ Ok tt
     passes_empty {row} {from} {to} L W e t h = fault_unset lm rm keep holds w steps k s t
         (sym (loaded_bit w k s row L t (omega arith))
         ∙ W.outside t h (⊎_elim inl (λ l. inr (omega arith)) (less t from)))
 
     -- a row of which all is left
     pub passes_whole : {row row₁ row₂ : List ℕ} → bit_at keep s ≡ true → Cut 0 w (from_bit holds 0 0) row row₁
-        → Sifted lm rm w steps k s steps row₁ row₂ → Loaded w k s row₂ → (t : ℕ) → t < w → fault_at lm rm keep holds w steps k s t ≡ Fine
+        → Sifted lm rm w steps k s steps row₁ row₂ → Loaded w k s row₂ → (t : ℕ) → t < w → fault_at lm rm keep holds w steps k s t ≡ Ok tt
     passes_whole {row} {row₁} {row₂} safe C S L t h = by (set_at w k s t) refl
       where
-        by : (b : Bool) → set_at w k s t ≡ b → fault_at lm rm keep holds w steps k s t ≡ Fine
+        by : (b : Bool) → set_at w k s t ≡ b → fault_at lm rm keep holds w steps k s t ≡ Ok tt
         by false e = fault_unset lm rm keep holds w steps k s t e
         by true e =
             let (was, all) = S.left t h (loaded_bit w k s row₂ L t (omega arith) ∙ e) in

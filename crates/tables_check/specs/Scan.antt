@@ -1,11 +1,11 @@
 -- The check of a given raster, on slices: what the loops compute.
-use Rattle.std.specs.Prelude.{◌≡◌, Bool, true, false, not, cond, List, ℕ, ◌+◌, ◌*◌, ◌≤◌, ◌<◌, length, get_or}
+use Rattle.std.specs.Prelude.{◌≡◌, Bool, true, false, not, cond, List, ℕ, ◌+◌, ◌*◌, ◌≤◌, ◌<◌, length, get_or, Result, Ok, Err, ⊤}
 use Rattle.systems.specs.Tests.{least}
 use Rattle.bitmaps.specs.Bits.{bit_at}
 use Rattle.tables_rows.specs.Raster.{set_at}
 use Rattle.tables_cut.specs.Rule.{ok_of, fine}
 use Rattle.tables_check.specs.declared.Fault.{Fault}
-use Rattle.tables_check.specs.declared.Fault.TheVariants.{Fine, NotAllowed}
+use Rattle.tables_check.specs.declared.Fault.TheVariants.{NotAllowed}
 use Rattle.tables_check.specs.Fault.{step_fault}
 
 module _ (lm rm : List ℕ) (w steps : ℕ) (k : List ℕ) where
@@ -18,10 +18,11 @@ module _ (lm rm : List ℕ) (w steps : ℕ) (k : List ℕ) where
   first_bad s t = least (fails_at s t) 0 steps
 
 -- what the pair (s, t) fails at, if it is set: 19 before 20
-unfoldable pub fault_at : List ℕ → List ℕ → List ℕ → List ℕ → ℕ → ℕ → List ℕ → ℕ → ℕ → Fault
+unfoldable pub fault_at : List ℕ → List ℕ → List ℕ → List ℕ → ℕ → ℕ → List ℕ → ℕ → ℕ → Result ⊤ Fault
 fault_at lm rm keep holds w steps k s t =
     let broken = step_fault steps (first_bad lm rm w steps k s t) in
-    cond (set_at w k s t) (cond (bit_at keep s) (cond (bit_at holds t) broken NotAllowed) NotAllowed) Fine
+    cond (set_at w k s t)
+    (cond (bit_at keep s) (cond (bit_at holds t) broken (Err NotAllowed)) (Err NotAllowed)) (Ok tt)
 
 -- no column from t to t + 7 is set in the row, if r says so
 pub record Blank (r : Bool) (row : List ℕ) (t : ℕ) : Type 0 where
@@ -35,5 +36,5 @@ pub record Sifted (lm rm : List ℕ) (w steps : ℕ) (k : List ℕ) (s m : ℕ) 
       → (bit_at row t ≡ true) × ((c : ℕ) → c < m → fine lm rm w steps k s c t ≡ true)
 
 -- no pair of row s fails, if r says so
-pub record RowPasses (r : Bool) (f : ℕ → ℕ → Fault) (w s : ℕ) : Type 0 where
-  pub fine_at : r ≡ true → (t : ℕ) → t < w → f s t ≡ Fine
+pub record RowPasses (r : Bool) (f : ℕ → ℕ → Result ⊤ Fault) (w s : ℕ) : Type 0 where
+  pub fine_at : r ≡ true → (t : ℕ) → t < w → f s t ≡ Ok tt

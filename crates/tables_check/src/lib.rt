@@ -7,7 +7,7 @@ ghost use Rattle.move_tables.specs.Moves.{Bounded, no_move};
 ghost use Rattle.bitmaps.specs.Packed.{bytes_for};
 ghost use Rattle.tables_rows.specs.Given.{Slices};
 ghost use Rattle.tables_rows.specs.Raster.{part};
-ghost use Rattle.tables_check.specs.Fault.{table_from};
+ghost use Rattle.tables_check.specs.Fault.{fault_of_pair, table_from};
 ghost use Rattle.tables_shifts.specs.Shifts.{Room};
 ghost use Rattle.tables_runs.specs.Runs.{Within};
 ghost use Rattle.tables_cut.specs.Rule.{ok_of, Shape, Tables, Loaded};
@@ -19,21 +19,30 @@ use move_tables::Sides;
 use steps::Step;
 use tables_cut::Span;
 
-// A pair that is set: fine, or with a state that may not be there, or breaking a rule at a step.
+// What a pair that is set fails at: a state that may not be there, or a rule, broken at a step.
 #[derive(Clone, Copy)]
 pub enum Fault {
-    Fine,
     NotAllowed,
     Broken(Step),
 }
 
-// What is found in a raster: no pair that fails, or the lowest one, with the step where it breaks a rule
-// (SPECIFICATION 11.5).
+// A pair that fails, its left state before its right one, with the step where it breaks a rule (SPECIFICATION 11.5).
 #[derive(Clone, Copy)]
-pub enum Found {
-    Passed,
+pub enum FailedPair {
     NotAllowedAt(usize, usize),
     BrokenAt(Step, usize, usize),
+}
+
+impl Fault {
+    // The fault with the pair that fails at it.
+    fn of_pair(self, s: usize, t: usize) -> FailedPair
+        ensures { result ≡ fault_of_pair self s t }
+    {
+        match self {
+            Fault::NotAllowed => FailedPair::NotAllowedAt(s, t),
+            Fault::Broken(step) => FailedPair::BrokenAt(step, s, t),
+        }
+    }
 }
 
 // Whether a step that leads the left to u and the right to v is matched: the left has no move, or the pair (u, v) is
@@ -92,7 +101,7 @@ fn fault_at(
     sides: Sides,
     s: usize,
     t: usize,
-) -> Fault
+) -> Result<(), Fault>
     requires { Slices keep.now holds.now lm.now rm.now sides
         × ((s < sides.left_states) × ((t < sides.right_states)
         × ((sides.left_states * bytes_for sides.right_states ≤ length raster.now)
@@ -101,13 +110,13 @@ fn fault_at(
         sides.right_states sides.steps raster.now s t }
 {
     if !bitmaps::get(row, t) {
-        return Fault::Fine;
+        return Ok(());
     }
     if !bitmaps::get(keep, s) {
-        return Fault::NotAllowed;
+        return Err(Fault::NotAllowed);
     }
     if !bitmaps::get(holds, t) {
-        return Fault::NotAllowed;
+        return Err(Fault::NotAllowed);
     }
     let c = first_bad(
         raster,
@@ -120,9 +129,9 @@ fn fault_at(
         t,
     );
     if c < sides.steps {
-        return Fault::Broken(Step { number: c });
+        return Err(Fault::Broken(Step { number: c }));
     }
-    Fault::Fine
+    Ok(())
 }
 
 // Whether a byte of the row begins at column t and nothing in it is set.
@@ -241,7 +250,7 @@ fn scan_rows(
     classes: &[u16],
     masks: &[u8],
     sides: Sides,
-) -> Found
+) -> Result<(), FailedPair>
     requires { Slices keep.now holds.now lm.now rm.now sides
         × (Shape rm.now runs.now classes.now masks.now sides.right_states sides.steps
         × (sides.left_states * bytes_for sides.right_states ≤ length raster.now)) }
@@ -254,9 +263,10 @@ fn scan_rows(
     let b = bitmaps::bytes_for(w);
     let mut copy = blank_row();
     let mut s: usize = 0;
-    let found = 'rows: loop {
+    // Kept: the rows in a loop around the columns, left by a label with the lowest pair that fails (SPECIFICATION 11.5).
+    'rows: loop {
         if n <= s {
-            break 'rows Found::Passed;
+            break 'rows Ok(());
         }
         if row_passes(
             &mut copy, raster, keep, holds, lm, rm, runs, classes, masks, sides, s,
@@ -273,21 +283,13 @@ fn scan_rows(
                 t += 8;
                 continue 'columns;
             }
-            let f = fault_at(row, raster, keep, holds, lm, rm, sides, s, t);
-            match f {
-                Fault::Fine => {}
-                Fault::NotAllowed => {
-                    break 'rows Found::NotAllowedAt(s, t);
-                }
-                Fault::Broken(step) => {
-                    break 'rows Found::BrokenAt(step, s, t);
-                }
+            if let Err(fault) = fault_at(row, raster, keep, holds, lm, rm, sides, s, t) {
+                break 'rows Err(fault.of_pair(s, t));
             }
             t += 1;
         }
         s += 1;
-    };
-    found
+    }
 }
 
 // The lowest pair that fails, with room for the runs and classes of the right.
@@ -301,7 +303,7 @@ fn scan_with(
     lm: &[u16],
     rm: &[u16],
     sides: Sides,
-) -> Found
+) -> Result<(), FailedPair>
     requires { Slices keep.now holds.now lm.now rm.now sides
         × ((sides.left_states * bytes_for sides.right_states ≤ length raster.now)
         × ((sides.steps * sides.right_states ≤ length runs.old)
@@ -315,7 +317,14 @@ fn scan_with(
 }
 
 // The lowest pair that fails, by row and then column.
-pub fn scan(raster: &[u8], keep: &[u8], holds: &[u8], lm: &[u16], rm: &[u16], sides: Sides) -> Found
+pub fn scan(
+    raster: &[u8],
+    keep: &[u8],
+    holds: &[u8],
+    lm: &[u16],
+    rm: &[u16],
+    sides: Sides,
+) -> Result<(), FailedPair>
     requires { Slices keep.now holds.now lm.now rm.now sides
         × (sides.left_states * bytes_for sides.right_states ≤ length raster.now) }
     ensures { result ≡ table_from (fault_at lm.now rm.now keep.now

@@ -1,5 +1,5 @@
 -- The check accepts exactly the tables that the theory's check accepts.
-use Rattle.std.specs.Prelude.{◌≡◌, refl, ◌↔◌, Bool, true, false, List, ℕ, ◌+◌, ◌*◌, ◌≤◌, ◌<◌, T, length}
+use Rattle.std.specs.Prelude.{◌≡◌, refl, ◌↔◌, Bool, true, false, List, ℕ, ◌+◌, ◌*◌, ◌≤◌, ◌<◌, T, length, Result, Ok, Err, ⊤}
 use Rattle.std.proofs.Common.{sym, ◌∙◌, arith}
 use Rattle.std.proofs.Math.Path.{ap}
 use Rattle.std.proofs.Math.Bool.{cond}
@@ -18,19 +18,18 @@ use Rattle.tables_check.specs.Fault.{table_from}
 use Rattle.tables_check.specs.Scan.{fault_at}
 use Rattle.tables_check.specs.Judged.{pairs_judged}
 use Rattle.tables_check.proofs.Exact.{judged_is, check_judged}
-use Rattle.tables_check.specs.declared.Found.{Found}
-use Rattle.tables_check.specs.declared.Found.TheVariants.{Passed, NotAllowedAt, BrokenAt}
+use Rattle.tables_check.specs.declared.FailedPair.{FailedPair}
 use Rattle.tables_whole.specs.Answer.{answer_of, raster_answer}
-use Rattle.tables_whole.specs.declared.TableAnswer.{TableAnswer}
-use Rattle.tables_whole.specs.declared.TableAnswer.TheVariants.{Accepted, StartNotSet}
+use Rattle.tables_whole.specs.declared.TableFault.{TableFault}
+use Rattle.tables_whole.specs.declared.TableFault.TheVariants.{StartNotSet}
 
-accepted_found : (f : Found) (m c : ℕ) → answer_of f m ≡ Accepted c → (f ≡ Passed) × (c ≡ m)
+accepted_found : (f : Result ⊤ FailedPair) (m c : ℕ) → answer_of f m ≡ Ok c → (f ≡ Ok tt) × (c ≡ m)
 unfolding answer_of
-accepted_found Passed m c e = (refl, cc)
-accepted_found (NotAllowedAt s t) m c e = let z : ◌≡◌ {A = ℕ} 0 1 = cc in absurd (omega arith)
-accepted_found (BrokenAt b s t) m c e = let z : ◌≡◌ {A = ℕ} 0 1 = cc in absurd (omega arith)
+accepted_found (Ok passed) m c e = (refl, cc)
+accepted_found (Err found) m c e = let z : ◌≡◌ {A = ℕ} 0 1 = cc in absurd (omega arith)
 
-accepted_start : (b : Bool) (x : TableAnswer) (c : ℕ) → cond b x StartNotSet ≡ Accepted c → T b × (x ≡ Accepted c)
+accepted_start : (b : Bool) (x : Result ℕ TableFault) (c : ℕ) → cond b x (Err StartNotSet) ≡ Ok c
+    → T b × (x ≡ Ok c)
 accepted_start true x c e = (tt, e)
 accepted_start false x c e = let z : ◌≡◌ {A = ℕ} 0 1 = cc in absurd (omega arith)
 
@@ -49,20 +48,20 @@ module _ {A : Signature} (L R : FiniteSystem A) {keep holds lm rm : List ℕ} {s
   -- what the slices answer is what is found in the relation that the raster denotes (SPECIFICATION 11.5)
   pub raster_answered : (k : List ℕ)
       → raster_answer keep holds lm rm sides k ≡ cond (set_at w k L.start R.start)
-      (answer_of (pairs_judged L R (set_at w k)) (ones (denoted n w k))) StartNotSet
+      (answer_of (pairs_judged L R (set_at w k)) (ones (denoted n w k))) (Err StartNotSet)
   unfolding raster_answer
   raster_answered k =
       ap (λ (b : Bool). cond b (answer_of (table_from (fault_at lm rm keep holds w sides.steps k) w n 0)
-      (pairs_set (set_at w k) w n)) StartNotSet) (starts k)
-      ∙ ap (λ (f : Found). cond (set_at w k L.start R.start) (answer_of f (pairs_set (set_at w k) w n))
-      StartNotSet) (judged_is L R k G)
+      (pairs_set (set_at w k) w n)) (Err StartNotSet)) (starts k)
+      ∙ ap (λ (f : Result ⊤ FailedPair). cond (set_at w k L.start R.start) (answer_of f (pairs_set (set_at w k) w n))
+      (Err StartNotSet)) (judged_is L R k G)
       ∙ ap (λ (m : ℕ). cond (set_at w k L.start R.start) (answer_of (pairs_judged L R
-      (set_at w k)) m) StartNotSet)
+      (set_at w k)) m) (Err StartNotSet))
       (pairs_ones n w k)
 
   -- a raster is accepted exactly if the theory's check accepts the relation, with the number of pairs set
   pub raster_accepted : (k : List ℕ) (c : ℕ)
-      → (raster_answer keep holds lm rm sides k ≡ Accepted c) ↔
+      → (raster_answer keep holds lm rm sides k ≡ Ok c) ↔
       (T (check L R (set_at w k)) × (c ≡ ones (denoted n w k)))
   unfolding answer_of
   raster_accepted k c = (

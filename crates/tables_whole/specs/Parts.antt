@@ -2,8 +2,7 @@
 use Rattle.std.specs.Prelude.{◌≡◌, List, ℕ, ◌-◌, ◌*◌, ◌≤◌, length, take, drop}
 use Rattle.std.proofs.Common.{arith, length-drop, take_all}
 use Rattle.bitmaps.specs.Packed.{bytes_for}
-use Rattle.tables_header.specs.Header.{header, header_bytes, table_bytes, fits}
-use Rattle.tables_rows.specs.Raster.{raster}
+use Rattle.tables_header.specs.Header.{header_bytes, table_bytes}
 
 -- the part from byte a on is all that follows
 pub rest_of : (a : ℕ) (t : List ℕ) → take (length t - a) (drop a t) ≡ drop a t

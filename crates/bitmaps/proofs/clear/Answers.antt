@@ -3,7 +3,6 @@ use Rattle.bitmaps.specs.BitLaws.{clear_one, bit_ge}
 use borrow.Author.Tests.{eqb-true}
 use Prim.Native.Nat.{◌-◌, ◌%◌}
 use native.Mathlib.Omega.{arith}
-use borrow.Author.Rules.{rules}
 use Rattle.bitmaps.proofs.clear.Goals as goal
 
 pub overflow_sub-s : goal.overflow_sub-s

@@ -1,5 +1,5 @@
 -- A number's digits: those in front of the last, which are the digits of a tenth of it, then the last.
-use Rattle.std.proofs.Common.{rules, arith}
+use Rattle.std.proofs.Common.{arith}
 use Rattle.byte_slices.specs.Put.{puts_same, puts_then}
 use Rattle.byte_slices.proofs.Laws.{one_digit, more_digits}
 use Rattle.byte_slices.proofs.+put_number.Goals as goal

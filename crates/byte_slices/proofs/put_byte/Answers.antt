@@ -1,5 +1,4 @@
 -- A byte is put where the slice has the place.
-use borrow.Author.Rules.{rules}
 use native.Mathlib.Omega.{arith}
 use Rattle.byte_slices.specs.Put.{puts_here, puts_dropped}
 use Rattle.byte_slices.proofs.put_byte.Goals as goal

@@ -1,12 +1,7 @@
 -- cut_by_steps goes from step to step: what is left after each breaks no rule at those before.
-use mathlib.Core.Path.{◌≡◌, subst}
-use Prim.Native.Nat.{ℕ, ◌-◌, ◌≤◌}
-use native.Mathlib.Omega.{arith}
-use borrow.Author.Rules.{rules}
+use Prim.Native.Nat.{◌-◌, ◌≤◌}
 use Rattle.tables_runs.specs.Runs.{Within}
-use Rattle.tables_runs.specs.RunsLaws.{within_cut}
 use Rattle.tables_check.specs.Scan.{Sifted}
-use Rattle.tables_check.proofs.Rows.{sifted_none, sifted_more}
 use Rattle.tables_check.proofs.cut_by_steps.Given as goal
 
 abbrev pub invariant-loop-step : goal.invariant-loop-step

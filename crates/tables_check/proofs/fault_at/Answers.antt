@@ -1,5 +1,4 @@
 -- fault_at makes its tests in the order of the definition.
-use borrow.Author.Rules.{rules}
 use native.Mathlib.Omega.{arith}
 use mathlib.Core.Path.{◌≡◌, sym, ◌∙◌, ap}
 use mathlib.Core.Bool.{true}
@@ -11,7 +10,7 @@ use Rattle.bitmaps.specs.Packed.{bytes_for}
 use Rattle.tables_rows.specs.Raster.{set_at}
 use Rattle.tables_rows.specs.RasterLaws.{part_length}
 use Rattle.tables_check.specs.Fault.{step_fault}
-use Rattle.tables_check.specs.Scan.{fault_at, first_bad}
+use Rattle.tables_check.specs.Scan.{fault_at}
 use Rattle.tables_check.proofs.Laws.{fault_unset, fault_unsafe, fault_untrue, fault_rules, step_broken, step_fine}
 use Rattle.tables_check.proofs.fault_at.Goals as goal
 use Rattle.tables_check.proofs.fault_at.Goals.{After-get, Else-not-get, Else-not-get-2, After-first_bad-c}

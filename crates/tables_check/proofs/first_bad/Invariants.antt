@@ -1,15 +1,8 @@
 -- first_bad tests one step after the other: from step c on the answer is still open.
-use borrow.Author.Rules.{rules}
-use native.Mathlib.Nat.{sub-zero}
-use native.Mathlib.Omega.{arith}
-use mathlib.Core.Path.{◌≡◌, sym, ◌∙◌, ap}
-use mathlib.Core.Bool.{not}
-use Prim.Native.Nat.{◌+◌, ◌-◌, ◌*◌, ◌≤◌, ◌<◌}
+use mathlib.Core.Path.{◌≡◌}
+use Prim.Native.Nat.{◌-◌, ◌≤◌}
 use Rattle.systems.specs.Tests.{least}
-use Rattle.limits.specs.Limits.{move_limit}
-use Rattle.move_tables.specs.MoveLaws.{target, reach, base_few}
-use Rattle.tables_check.specs.Scan.{fails_at, first_bad}
-use Rattle.tables_check.proofs.Laws.{least_yes, least_no, least_end}
+use Rattle.tables_check.specs.Scan.{fails_at}
 use Rattle.tables_check.proofs.first_bad.Given as goal
 
 abbrev pub invariant-loop-c : goal.invariant-loop-c

@@ -1,4 +1,3 @@
-use borrow.Author.Rules.{rules}
 use Rattle.tables_check.proofs.Laws.{blank_not, blank_byte}
 use Rattle.tables_check.proofs.is_blank.Goals as goal
 

@@ -1,7 +1,6 @@
 -- row_passes: a row in which nothing is set passes, and one that loses nothing.
 use mathlib.Core.Path.{sym, ◌∙◌}
 use native.Mathlib.Omega.{arith}
-use borrow.Author.Rules.{rules}
 use Rattle.tables_runs.specs.RunsLaws.{within_cut}
 use Rattle.tables_check.proofs.Rows.{passes_empty, passes_not, passes_whole}
 use Rattle.tables_check.proofs.row_passes.Goals as goal

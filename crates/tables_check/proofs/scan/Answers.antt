@@ -1,6 +1,5 @@
 -- scan makes room for the runs: little for few states, else for all; then as `scan_with`.
 use native.Mathlib.Omega.{arith}
-use borrow.Author.Rules.{rules}
 use Rattle.tables_runs.specs.RunsLaws.{runs_room}
 use Rattle.tables_shifts.specs.ShiftsLaws.{shifts_room}
 use Rattle.limits.specs.Limits.{state_limit, few_states}

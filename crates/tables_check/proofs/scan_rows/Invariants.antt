@@ -1,21 +1,10 @@
 -- scan_rows goes by row, then column: from the present pair on the answer is still open.
-use borrow.Author.Rules.{rules}
-use native.Mathlib.Nat.{sub-zero}
-use native.Mathlib.Omega.{arith}
-use mathlib.Core.Path.{◌≡◌, sym, ◌∙◌, ap}
-use mathlib.Core.List.{List}
-use Prim.Native.Nat.{ℕ, ◌+◌, ◌-◌, ◌*◌, ◌≤◌}
-use lib.ListN.{length, take, drop}
+use mathlib.Core.Path.{◌≡◌}
+use Prim.Native.Nat.{◌+◌, ◌-◌}
+use lib.ListN.{length}
 use Rattle.limits.specs.Limits.{keep_limit}
-use Rattle.bitmaps.specs.Bits.{bit_at}
-use Rattle.bitmaps.specs.Packed.{bytes_for}
-use Rattle.tables_rows.specs.Raster.{part, raster_limit}
-use Rattle.tables_rows.specs.RasterLaws.{part_length, part_between, row_few, row_inside}
-use Rattle.tables_check.specs.declared.Fault.{Fault}
-use Rattle.tables_check.specs.declared.Found.{Found}
-use Rattle.tables_check.specs.Fault.{picked, row_from, table_from}
+use Rattle.tables_check.specs.Fault.{row_from, table_from}
 use Rattle.tables_check.specs.Scan.{fault_at}
-use Rattle.tables_check.proofs.Laws.{row_step, row_done, row_skip, row_passed, fault_unset, table_step, table_end, picked_fine, picked_not_allowed, picked_broken}
 use Rattle.tables_check.proofs.scan_rows.Given as goal
 
 abbrev pub invariant-columns : goal.invariant-columns

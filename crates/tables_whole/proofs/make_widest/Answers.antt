@@ -1,5 +1,4 @@
 -- make_widest writes the header, then the raster into the part behind it.
-use borrow.Author.Rules.{rules}
 use native.Mathlib.Omega.{arith}
 use Prim.Native.Nat.{◌≤◌}
 use lib.ListN.{length}
