@@ -69,9 +69,13 @@ text_of (Ok r) = Ok r.text
 text_of (Err f) = Err f
 
 -- the same, with the refusal that the fault is
-abbrev pub answer : Result Text Fault → Result Text Refusal
-answer (Ok t) = Ok t
-answer (Err f) = Err (refusal_of f)
+abbrev pub judged : Result Text Fault → Result Text Refusal
+judged (Ok t) = Ok t
+judged (Err f) = Err (refusal_of f)
+
+-- the answer that a text which is read gets
+abbrev pub answer : Result State Fault → Result Text Refusal
+answer r = judged (text_of r)
 
 -- the record that a text was read into; a refused text has none, and a fixed one stands for it
 abbrev pub record_of : Result Text Refusal → Text
@@ -112,7 +116,7 @@ module _ (period : ℕ) where
   -- the answer to a text: code 24 is judged first, then code 1 (SPECIFICATION 4.5, 13.4)
   unfoldable pub read_text : List ℕ → Result Text Refusal
   read_text s =
-      let read = answer (text_of (read_whole s)) in
+      let read = answer (read_whole s) in
       if tick_allowed period then
       if nat_lt largest_text (length s) then Err (refusal_of TooLong) else read
       else Err (TickOutOfRange period)
