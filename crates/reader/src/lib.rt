@@ -2,176 +2,157 @@
 // (SPECIFICATION 4.7) or one of the codes 1 to 8 (SPECIFICATION 4.5).
 #![tactic(auto)]
 
-ghost use Rattle.std.specs.Prelude.{◌≡◌, false, ◌≤◌, ◌<◌, length};
-ghost use Rattle.reader_lists.specs.Turns.{item, state_of};
+ghost use Rattle.std.specs.Prelude.{◌≡◌, ◌≤◌, length};
 ghost use Rattle.reader_lists.specs.Heads.{no_edges, before_edges, with_rest, ReadsHead, ReadsEdges};
-ghost use Rattle.reader.specs.Reading.{start, channel_part, process_part, clock_part, location_part, init_part};
-ghost use Rattle.reader.specs.Reading.{edge_part, end_part, read_whole, answer, read_text};
-ghost use Rattle.reader.specs.Parts.{list_past, started, read_head, ReadsAny};
+ghost use Rattle.reader.specs.Reading.{start, channel_part, process_read, clock_part, location_part, init_read};
+ghost use Rattle.reader.specs.Reading.{edge_part, end_read, read_whole, text_of, read_text};
+ghost use Rattle.reader.specs.Parts.{head_of, read_head};
 ghost use Rattle.reader.specs.Faults.{refusal_of};
 ghost use Rattle.limits.specs.Limits.{TickLength, largest_text};
 
 use limits::{CHANNEL_LIMIT, LARGEST_TEXT, LOCATION_LIMIT};
 use reader_lists::{EdgesRead, HeadRead, Named};
 use reader_parts::{
-    Declaration, FIRST_LOCATION, Fault, NAME_SLOTS, PROCESS_LIMIT, PROCESS_SLOT, Status, Use,
+    Declaration, FIRST_LOCATION, Fault, NAME_SLOTS, PROCESS_LIMIT, PROCESS_SLOT, Use,
 };
 use reader_record::{Channel, Name, Text};
 use refusals::{File, Refusal};
 
 // Nothing is read and nothing is declared.
+#[tactic(auto, unfolding(crate::specs::Reading::start))]
 fn start() -> HeadRead
     ensures { with_rest result 0 no_edges 0 ≡ start }
 {
-    let status = Status::At(0);
     let name = Name { place: 0, len: 0 };
-    let names = [name; NAME_SLOTS];
-    let head = reader_lists::no_head();
     HeadRead {
-        status: status,
-        names: names,
-        head: head,
+        names: [name; NAME_SLOTS],
+        head: reader_lists::no_head(),
+        end: 0,
     }
-}
-
-// An optional list. `word` is the first of the words that open it, and `opened` is how far the reader has come past
-// them, which counts only where the list is there.
-fn list_part(
-    period: usize,
-    s: &[u8],
-    r: HeadRead,
-    word: usize,
-    opened: Status,
-    k: Named,
-) -> HeadRead
-    requires { TickLength period × (length s.now ≤ largest_text) }
-    ensures { ReadsHead (list_past period word opened (item k) s.now) r result }
-{
-    let st = r.status;
-    if reader_parts::ahead(s, st, word) {
-        return reader_lists::named_items(period, s, opened, r, k);
-    }
-    r
 }
 
 // The channels, where there are any (SPECIFICATION 3.1).
-fn channel_part(period: usize, s: &[u8], r: HeadRead) -> HeadRead
+fn channel_part(period: usize, s: &[u8], r: HeadRead) -> Result<HeadRead, Fault>
     requires { TickLength period × (length s.now ≤ largest_text) }
     ensures { ReadsHead (channel_part period s.now) r result }
 {
-    let st = r.status;
-    let a = reader_parts::take(s, st, reader_tokens::BROADCAST);
-    let b = reader_parts::take(s, a, reader_tokens::CHAN);
-    list_part(period, s, r, reader_tokens::BROADCAST, b, Named::Channel)
+    if !reader_parts::ahead(s, r.end, reader_tokens::BROADCAST) {
+        return Ok(r);
+    }
+    let a = reader_parts::take(s, r.end, reader_tokens::BROADCAST)?;
+    let b = reader_parts::take(s, a, reader_tokens::CHAN)?;
+    let mut from = r;
+    from.end = b;
+    reader_lists::named_items(period, s, from, Named::Channel)
 }
 
 // The process and its name (SPECIFICATION 3.1).
-fn process_part(s: &[u8], st: Status, names: [Name; NAME_SLOTS]) -> Declaration
+#[tactic(auto, unfolding(crate::specs::Reading::process_read))]
+fn process_part(s: &[u8], p: usize, names: [Name; NAME_SLOTS]) -> Result<Declaration, Fault>
     requires { length s.now ≤ largest_text }
-    ensures { ReadsAny (process_part s.now) (state_of st names) (state_of result.status result.names) }
+    ensures { result ≡ process_read s.now p names }
 {
-    let a = reader_parts::take(s, st, reader_tokens::PROCESS);
-    let d = reader_parts::declare(s, a, names, PROCESS_SLOT, 0, PROCESS_LIMIT);
-    let b = d.status;
-    let c = reader_parts::take(s, b, reader_tokens::LEFT);
-    let e = reader_parts::take(s, c, reader_tokens::RIGHT);
-    let f = reader_parts::take(s, e, reader_tokens::OPEN);
-    let all = d.names;
-    let name = d.name;
-    Declaration {
-        status: f,
-        names: all,
-        name: name,
-    }
+    let a = reader_parts::take(s, p, reader_tokens::PROCESS)?;
+    let d = reader_parts::declare(s, a, names, PROCESS_SLOT, 0, PROCESS_LIMIT)?;
+    let b = reader_parts::take(s, d.end, reader_tokens::LEFT)?;
+    let c = reader_parts::take(s, b, reader_tokens::RIGHT)?;
+    let end = reader_parts::take(s, c, reader_tokens::OPEN)?;
+    let names = d.names;
+    Ok(Declaration {
+        names,
+        name: d.name,
+        end,
+    })
 }
 
 // The clocks, where there are any (SPECIFICATION 3.1).
-fn clock_part(period: usize, s: &[u8], r: HeadRead) -> HeadRead
+fn clock_part(period: usize, s: &[u8], r: HeadRead) -> Result<HeadRead, Fault>
     requires { TickLength period × (length s.now ≤ largest_text) }
     ensures { ReadsHead (clock_part period s.now) r result }
 {
-    let st = r.status;
-    let a = reader_parts::take(s, st, reader_tokens::CLOCK);
-    list_part(period, s, r, reader_tokens::CLOCK, a, Named::Clock)
+    if !reader_parts::ahead(s, r.end, reader_tokens::CLOCK) {
+        return Ok(r);
+    }
+    let a = reader_parts::take(s, r.end, reader_tokens::CLOCK)?;
+    let mut from = r;
+    from.end = a;
+    reader_lists::named_items(period, s, from, Named::Clock)
 }
 
 // The locations (SPECIFICATION 3.1).
-fn location_part(period: usize, s: &[u8], r: HeadRead) -> HeadRead
+fn location_part(period: usize, s: &[u8], r: HeadRead) -> Result<HeadRead, Fault>
     requires { TickLength period × (length s.now ≤ largest_text) }
     ensures { ReadsHead (location_part period s.now) r result }
 {
-    let st = r.status;
-    let a = reader_parts::take(s, st, reader_tokens::STATE);
-    reader_lists::named_items(period, s, a, r, Named::Location)
+    let a = reader_parts::take(s, r.end, reader_tokens::STATE)?;
+    let mut from = r;
+    from.end = a;
+    reader_lists::named_items(period, s, from, Named::Location)
 }
 
 // The parts before `init`.
-fn read_head(period: usize, s: &[u8]) -> HeadRead
+fn read_head(period: usize, s: &[u8]) -> Result<HeadRead, Fault>
     requires { TickLength period × (length s.now ≤ largest_text) }
-    ensures { with_rest result 0 no_edges 0 ≡ read_head period s.now }
+    ensures { read_head period s.now ≡ head_of result }
 {
-    let a = start();
-    let b = channel_part(period, s, a);
-    let st = b.status;
-    let before = b.names;
-    let d = process_part(s, st, before);
-    let status = d.status;
+    let a = channel_part(period, s, start())?;
+    let before = a.names;
+    let d = process_part(s, a.end, before)?;
     let names = d.names;
-    let head = b.head;
-    let c = HeadRead {
-        status: status,
-        names: names,
-        head: head,
+    let b = HeadRead {
+        names,
+        head: a.head,
+        end: d.end,
     };
-    let e = clock_part(period, s, c);
-    location_part(period, s, e)
+    let c = clock_part(period, s, b)?;
+    location_part(period, s, c)
 }
 
 // The start (SPECIFICATION 3.1).
-fn init_part(s: &[u8], st: Status, names: [Name; NAME_SLOTS]) -> Use
+#[tactic(auto, unfolding(crate::specs::Reading::init_read))]
+fn init_part(s: &[u8], p: usize, names: [Name; NAME_SLOTS]) -> Result<Use, Fault>
     requires { length s.now ≤ largest_text }
-    ensures { ReadsAny (init_part s.now) (state_of st names) (started names result) }
+    ensures { result ≡ init_read s.now p names }
 {
-    let a = reader_parts::take(s, st, reader_tokens::INIT);
-    let u = reader_parts::use_name(s, a, names, FIRST_LOCATION, LOCATION_LIMIT, false);
-    let b = u.status;
-    let c = reader_parts::take(s, b, reader_tokens::SEMICOLON);
-    Use {
-        status: c,
+    let a = reader_parts::take(s, p, reader_tokens::INIT)?;
+    let u = reader_parts::use_name(s, a, names, FIRST_LOCATION, LOCATION_LIMIT, false)?;
+    let end = reader_parts::take(s, u.end, reader_tokens::SEMICOLON)?;
+    Ok(Use {
         number: u.number,
         place: u.place,
-    }
+        end,
+    })
 }
 
 // The edges, where there are any (SPECIFICATION 3.1).
 fn edge_part(
     period: usize,
     s: &[u8],
-    st: Status,
+    p: usize,
     names: [Name; NAME_SLOTS],
     channels: [Channel; CHANNEL_LIMIT],
-) -> EdgesRead
+) -> Result<EdgesRead, Fault>
     requires { TickLength period × (length s.now ≤ largest_text) }
-    ensures { ReadsEdges (edge_part period s.now) names (before_edges st channels) result }
+    ensures { ReadsEdges (edge_part period s.now) names (before_edges p channels) result }
 {
-    if reader_parts::ahead(s, st, reader_tokens::TRANS) {
-        let a = reader_parts::take(s, st, reader_tokens::TRANS);
-        return reader_lists::edges(period, s, a, names, channels);
+    if !reader_parts::ahead(s, p, reader_tokens::TRANS) {
+        return Ok(reader_lists::no_edges(p, channels));
     }
-    reader_lists::no_edges(st, channels)
+    let a = reader_parts::take(s, p, reader_tokens::TRANS)?;
+    reader_lists::edges(period, s, a, names, channels)
 }
 
 // The name of the process again, and the end of the text (SPECIFICATION 3.1, 3.3).
-fn end_part(s: &[u8], st: Status, names: [Name; NAME_SLOTS]) -> Status
+#[tactic(auto, unfolding(crate::specs::Reading::end_read))]
+fn end_part(s: &[u8], p: usize, names: [Name; NAME_SLOTS]) -> Result<usize, Fault>
     requires { length s.now ≤ largest_text }
-    ensures { ReadsAny (end_part s.now) (state_of st names) (state_of result names) }
+    ensures { result ≡ end_read s.now p names }
 {
-    let a = reader_parts::take(s, st, reader_tokens::CLOSE);
-    let b = reader_parts::take(s, a, reader_tokens::SYSTEM);
-    let u = reader_parts::use_name(s, b, names, PROCESS_SLOT, PROCESS_LIMIT, false);
-    let c = u.status;
-    let d = reader_parts::take(s, c, reader_tokens::SEMICOLON);
-    reader_parts::take(s, d, reader_tokens::END)
+    let a = reader_parts::take(s, p, reader_tokens::CLOSE)?;
+    let b = reader_parts::take(s, a, reader_tokens::SYSTEM)?;
+    let u = reader_parts::use_name(s, b, names, PROCESS_SLOT, PROCESS_LIMIT, false)?;
+    let c = reader_parts::take(s, u.end, reader_tokens::SEMICOLON)?;
+    reader_parts::take(s, c, reader_tokens::END)
 }
 
 // The refusal for each reason to refuse a text (SPECIFICATION 13.1), which is taken for the left or only one.
@@ -192,36 +173,32 @@ fn refusal_of(f: Fault) -> Refusal
 }
 
 // The parts in their order, and the record put together where all of them fit.
-fn read_whole(period: usize, s: &[u8]) -> Result<Text, Refusal>
+fn read_whole(period: usize, s: &[u8]) -> Result<Text, Fault>
     requires { TickLength period × (length s.now ≤ largest_text) }
-    ensures { result ≡ answer (read_whole period s.now).status
-        (read_whole period s.now).text }
+    ensures { result ≡ text_of (read_whole period s.now) }
 {
-    let r = read_head(period, s);
+    let r = read_head(period, s)?;
     let h = r.head;
     let names = r.names;
-    let i = init_part(s, r.status, names);
+    let i = init_part(s, r.end, names)?;
     let given = h.channels;
-    let e = edge_part(period, s, i.status, names, given);
-    let end = end_part(s, e.status, names);
+    let e = edge_part(period, s, i.end, names, given)?;
+    end_part(s, e.end, names)?;
     let channels = e.channels;
     let clocks = h.clocks;
     let locations = h.locations;
     let edges = e.edges;
-    match end {
-        Status::Refused(f) => Err(refusal_of(f)),
-        Status::At(_) => Ok(Text {
-            channels,
-            channel_count: h.channel_count,
-            clocks,
-            clock_count: h.clock_count,
-            locations,
-            location_count: h.location_count,
-            init: i.number,
-            edges,
-            edge_count: e.count,
-        }),
-    }
+    Ok(Text {
+        channels,
+        channel_count: h.channel_count,
+        clocks,
+        clock_count: h.clock_count,
+        locations,
+        location_count: h.location_count,
+        init: i.number,
+        edges,
+        edge_count: e.count,
+    })
 }
 
 // The record of the text at a tick length, or its refusal: the operation read (SPECIFICATION 12.1) as far as code 8.
@@ -236,5 +213,8 @@ pub fn parse(period: usize, text: &[u8]) -> Result<Text, Refusal>
     if LARGEST_TEXT < text.len() {
         return Err(refusal_of(Fault::TooLong));
     }
-    read_whole(period, text)
+    match read_whole(period, text) {
+        Ok(t) => Ok(t),
+        Err(f) => Err(refusal_of(f)),
+    }
 }

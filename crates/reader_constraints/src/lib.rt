@@ -2,36 +2,28 @@
 // 4.7).
 #![tactic(auto)]
 
-ghost use Rattle.std.specs.Prelude.{◌≡◌, true, false, ◌+◌, ◌≤◌, ◌<◌, length};
-ghost use Rattle.reader_constraints.specs.Constraints.{in_ticks, no_amount, constant_of, constant, least_after, least_constant};
-ghost use Rattle.reader_constraints.specs.Constraints.{no_sign, read_sign, sign_of, sign_next, comparison_next};
+ghost use Rattle.std.specs.Prelude.{◌≡◌, ◌+◌, ◌≤◌, ◌<◌, length};
+ghost use Rattle.reader_constraints.specs.Constraints.{in_ticks, constant_of, constant, least_after, least_constant};
+ghost use Rattle.reader_constraints.specs.Constraints.{sign_of, sign_next, comparison_next};
 ghost use Rattle.reader_constraints.specs.Constraints.{blank_constraint, with_comparison, constraint, optional};
 ghost use Rattle.reader_constraints.specs.Constraints.{guard, invariant};
 ghost use Rattle.reader_tokens.specs.Scan.{over_numeral};
 ghost use Rattle.limits.specs.Limits.{TickLength, largest_text, comparison_limit};
 
 use limits::{CLOCK_LIMIT, COMPARISON_LIMIT, LARGEST_CONSTANT};
-use reader_parts::{FIRST_CLOCK, Fault, NAME_SLOTS, Status};
+use reader_parts::{FIRST_CLOCK, Fault, NAME_SLOTS};
 use reader_record::{Comparison, Constraint, Name, Sign};
 use reader_tokens::Token;
 
-#[derive(Clone, Copy)]
+// A constant in ticks, and the place behind it.
+#[derive(Clone, Copy, PartialEq, Eq)]
 pub struct Amount {
-    pub status: Status,
     pub value: usize,
-}
-
-fn no_amount(f: Fault) -> Amount
-    ensures { result ≡ no_amount f }
-{
-    let st = Status::Refused(f);
-    Amount {
-        status: st,
-        value: 0,
-    }
+    pub end: usize,
 }
 
 // A number of milliseconds in ticks: the nearest whole number, an exact half upward (SPECIFICATION 4.7).
+#[tactic(auto, unfolding(crate::specs::Constraints::in_ticks))]
 fn in_ticks(period: usize, n: usize) -> usize
     requires { TickLength period × (n ≤ over_numeral) }
     ensures { result ≡ in_ticks period n }
@@ -40,278 +32,219 @@ fn in_ticks(period: usize, n: usize) -> usize
 }
 
 // A token that has to be a numeral that comes to at least `least` ticks and at most the largest constant.
-fn constant_of(period: usize, s: &[u8], t: Token, least: usize) -> Amount
+#[tactic(auto, unfolding(crate::specs::Constraints::constant_of))]
+fn constant_of(period: usize, s: &[u8], t: Token, least: usize) -> Result<Amount, Fault>
     requires { TickLength period }
     ensures { result ≡ constant_of period least s.now t }
 {
-    let a = t.place;
-    let misfit = Fault::Misfit(a);
     if t.kind != reader_tokens::NUMERAL {
-        return no_amount(misfit);
+        return Err(Fault::Misfit(t.place));
     }
-    let n = reader_tokens::number_at(s, a);
-    let v = in_ticks(period, n);
-    if LARGEST_CONSTANT < v {
-        let f = Fault::TooLarge(a);
-        return no_amount(f);
+    let n = reader_tokens::number_at(s, t.place);
+    let value = in_ticks(period, n);
+    if LARGEST_CONSTANT < value {
+        return Err(Fault::TooLarge(t.place));
     }
-    if v < least {
-        return no_amount(misfit);
+    if value < least {
+        return Err(Fault::Misfit(t.place));
     }
-    let yes = Status::At(t.end);
-    Amount {
-        status: yes,
-        value: v,
-    }
+    Ok(Amount { value, end: t.end })
 }
 
 // The next token as a constant.
-pub fn constant(period: usize, s: &[u8], st: Status, least: usize) -> Amount
+#[tactic(auto, unfolding(crate::specs::Constraints::constant))]
+pub fn constant(period: usize, s: &[u8], p: usize, least: usize) -> Result<Amount, Fault>
     requires { TickLength period }
-    ensures { result ≡ constant period least s.now st }
+    ensures { result ≡ constant period least s.now p }
 {
-    match st {
-        Status::Refused(f) => no_amount(f),
-        Status::At(p) => {
-            let t = reader_scanner::scan(s, p);
-            constant_of(period, s, t, least)
-        }
+    constant_of(period, s, reader_scanner::scan(s, p), least)
+}
+
+// The sign that a token of this kind is (SPECIFICATION 3.1, in an invariant 3.2).
+#[tactic(auto, unfolding(crate::specs::Constraints::sign_of))]
+fn sign_of(k: usize, invariant: bool) -> Option<Sign>
+    ensures { result ≡ sign_of invariant k }
+{
+    match k {
+        reader_tokens::AT_MOST => Some(Sign::AtMost),
+        reader_tokens::LESS => Some(Sign::Less),
+        _ if invariant => None,
+        reader_tokens::AT_LEAST => Some(Sign::AtLeast),
+        reader_tokens::GREATER => Some(Sign::Greater),
+        reader_tokens::EQUAL => Some(Sign::Equal),
+        _ => None,
     }
 }
 
-#[derive(Clone, Copy)]
+// A sign, and the place behind it.
+#[derive(Clone, Copy, PartialEq, Eq)]
 pub struct SignRead {
-    pub status: Status,
     pub sign: Sign,
-}
-
-fn no_sign(f: Fault) -> SignRead
-    ensures { result ≡ no_sign f }
-{
-    let st = Status::Refused(f);
-    let sign = Sign::AtMost;
-    SignRead {
-        status: st,
-        sign: sign,
-    }
-}
-
-fn read_sign(t: Token, sign: Sign) -> SignRead
-    ensures { result ≡ read_sign t sign }
-{
-    let yes = Status::At(t.end);
-    SignRead {
-        status: yes,
-        sign: sign,
-    }
-}
-
-// A token that has to be a sign (SPECIFICATION 3.1, in an invariant 3.2).
-fn sign_of(t: Token, invariant: bool) -> SignRead
-    ensures { result ≡ sign_of invariant t }
-{
-    let k = t.kind;
-    let f = Fault::Misfit(t.place);
-    if k == reader_tokens::AT_MOST {
-        return read_sign(t, Sign::AtMost);
-    }
-    if k == reader_tokens::LESS {
-        return read_sign(t, Sign::Less);
-    }
-    if invariant {
-        return no_sign(f);
-    }
-    if k == reader_tokens::AT_LEAST {
-        return read_sign(t, Sign::AtLeast);
-    }
-    if k == reader_tokens::GREATER {
-        return read_sign(t, Sign::Greater);
-    }
-    if k == reader_tokens::EQUAL {
-        return read_sign(t, Sign::Equal);
-    }
-    no_sign(f)
+    pub end: usize,
 }
 
 // The next token as a sign.
-fn sign_next(s: &[u8], st: Status, invariant: bool) -> SignRead
-    ensures { result ≡ sign_next s.now st invariant }
+#[tactic(auto, unfolding(crate::specs::Constraints::sign_next))]
+fn sign_next(s: &[u8], p: usize, invariant: bool) -> Result<SignRead, Fault>
+    ensures { result ≡ sign_next s.now p invariant }
 {
-    match st {
-        Status::Refused(f) => no_sign(f),
-        Status::At(p) => {
-            let t = reader_scanner::scan(s, p);
-            sign_of(t, invariant)
-        }
-    }
+    let t = reader_scanner::scan(s, p);
+    let sign = sign_of(t.kind, invariant).ok_or(Fault::Misfit(t.place))?;
+    Ok(SignRead { sign, end: t.end })
 }
 
 // The least constant that may stand after a sign in an invariant: `x < 0` would forbid the whole location.
+#[tactic(auto, unfolding(crate::specs::Constraints::least_after))]
 fn least_after(sign: Sign) -> usize
     ensures { result ≡ least_after sign }
 {
-    match sign {
-        Sign::AtMost => 0,
-        Sign::AtLeast => 0,
-        Sign::Equal => 0,
-        Sign::Less => 1,
-        Sign::Greater => 0,
-    }
+    if sign == Sign::Less { 1 } else { 0 }
 }
 
 // The same in a guard or an invariant (SPECIFICATION 3.2).
+#[tactic(auto, unfolding(crate::specs::Constraints::least_constant))]
 fn least_constant(invariant: bool, sign: Sign) -> usize
     ensures { result ≡ least_constant invariant sign }
 {
-    if invariant {
-        return least_after(sign);
-    }
-    0
+    if invariant { least_after(sign) } else { 0 }
 }
 
-#[derive(Clone, Copy)]
+// A comparison, and the place behind it.
+#[derive(Clone, Copy, PartialEq, Eq)]
 pub struct ComparisonRead {
-    pub status: Status,
     pub comparison: Comparison,
+    pub end: usize,
 }
 
 // A clock, a sign and a numeral. `over`: it is one comparison too many.
+#[tactic(auto, unfolding(crate::specs::Constraints::comparison_next))]
 fn comparison_next(
     period: usize,
     s: &[u8],
-    st: Status,
+    p: usize,
     names: [Name; NAME_SLOTS],
     invariant: bool,
     over: bool,
-) -> ComparisonRead
+) -> Result<ComparisonRead, Fault>
     requires { TickLength period × (length s.now ≤ largest_text) }
-    ensures { result ≡ comparison_next period s.now st names invariant over }
+    ensures { result ≡ comparison_next period s.now p names invariant over }
 {
-    let clock = reader_parts::use_name(s, st, names, FIRST_CLOCK, CLOCK_LIMIT, over);
-    let after_clock = clock.status;
-    let read = sign_next(s, after_clock, invariant);
-    let after_sign = read.status;
-    let sign = read.sign;
-    let least = least_constant(invariant, sign);
-    let bound = constant(period, s, after_sign, least);
-    let number = clock.number as u8;
-    let value = bound.value as u16;
-    let made = Comparison {
-        clock: number,
-        sign: sign,
-        bound: value,
+    let clock = reader_parts::use_name(s, p, names, FIRST_CLOCK, CLOCK_LIMIT, over)?;
+    let read = sign_next(s, clock.end, invariant)?;
+    let least = least_constant(invariant, read.sign);
+    let bound = constant(period, s, read.end, least)?;
+    let comparison = Comparison {
+        clock: clock.number as u8,
+        sign: read.sign,
+        bound: bound.value as u16,
     };
-    let end = bound.status;
-    ComparisonRead {
-        status: end,
-        comparison: made,
-    }
+    Ok(ComparisonRead {
+        comparison,
+        end: bound.end,
+    })
 }
 
+#[tactic(auto, unfolding(crate::specs::Constraints::blank_constraint))]
 pub fn blank_constraint() -> Constraint
     ensures { result ≡ blank_constraint }
 {
-    let sign = Sign::AtMost;
     let none = Comparison {
         clock: 0,
-        sign: sign,
+        sign: Sign::AtMost,
         bound: 0,
     };
-    let all = [none; COMPARISON_LIMIT];
     Constraint {
-        comparisons: all,
+        comparisons: [none; COMPARISON_LIMIT],
         count: 0,
     }
 }
 
+#[tactic(auto, unfolding(crate::specs::Constraints::with_comparison))]
 fn with_comparison(c: Constraint, x: Comparison) -> Constraint
     requires { c.count < comparison_limit }
     ensures { result ≡ with_comparison c x }
 {
     let mut d = c;
-    let k = d.count as usize;
-    d.comparisons[k] = x;
-    d.count = (k + 1) as u8;
+    d.comparisons[d.count as usize] = x;
+    d.count += 1;
     d
 }
 
-#[derive(Clone, Copy)]
+// A guard or an invariant, and the place behind it.
+#[derive(Clone, Copy, PartialEq, Eq)]
 pub struct ConstraintRead {
-    pub status: Status,
     pub constraint: Constraint,
+    pub end: usize,
 }
 
 // Comparisons joined by `&&`, then the closing token.
 fn constraint(
     period: usize,
     s: &[u8],
-    st: Status,
+    p: usize,
     names: [Name; NAME_SLOTS],
     invariant: bool,
     closing: usize,
-) -> ConstraintRead
+) -> Result<ConstraintRead, Fault>
     requires { TickLength period × (length s.now ≤ largest_text) }
-    ensures { result ≡ constraint period s.now st names invariant closing }
+    ensures { result ≡ constraint period s.now p names invariant closing }
 {
     let mut c = blank_constraint();
-    let mut q = st;
-    loop {
-        if COMPARISON_LIMIT <= c.count as usize {
-            let x = comparison_next(period, s, q, names, invariant, true);
-            let no = x.status;
-            return ConstraintRead {
-                status: no,
-                constraint: c,
-            };
+    let mut q = p;
+    for _ in 0..COMPARISON_LIMIT {
+        let x = comparison_next(period, s, q, names, invariant, false)?;
+        c = with_comparison(c, x.comparison);
+        if !reader_parts::ahead(s, x.end, reader_tokens::BOTH) {
+            let end = reader_parts::take(s, x.end, closing)?;
+            return Ok(ConstraintRead { constraint: c, end });
         }
-        let x = comparison_next(period, s, q, names, invariant, false);
-        let came = x.status;
-        let made = x.comparison;
-        c = with_comparison(c, made);
-        if !reader_parts::ahead(s, came, reader_tokens::BOTH) {
-            let end = reader_parts::take(s, came, closing);
-            return ConstraintRead {
-                status: end,
-                constraint: c,
-            };
-        }
-        q = reader_parts::take(s, came, reader_tokens::BOTH);
+        q = reader_parts::take(s, x.end, reader_tokens::BOTH)?;
     }
+    let x = comparison_next(period, s, q, names, invariant, true)?;
+    Ok(ConstraintRead {
+        constraint: c,
+        end: x.end,
+    })
 }
 
 // An optional constraint: the token that opens it, its comparisons and the token that closes it.
+#[tactic(auto, unfolding(crate::specs::Constraints::optional))]
 fn optional(
     period: usize,
     s: &[u8],
-    st: Status,
+    p: usize,
     names: [Name; NAME_SLOTS],
     opening: usize,
     invariant: bool,
     closing: usize,
-) -> ConstraintRead
+) -> Result<ConstraintRead, Fault>
     requires { TickLength period × (length s.now ≤ largest_text) }
-    ensures { result ≡ optional period opening invariant closing s.now st names }
+    ensures { result ≡ optional period opening invariant closing s.now p names }
 {
-    if reader_parts::ahead(s, st, opening) {
-        let q = reader_parts::take(s, st, opening);
-        return constraint(period, s, q, names, invariant, closing);
+    if !reader_parts::ahead(s, p, opening) {
+        return Ok(ConstraintRead {
+            constraint: blank_constraint(),
+            end: p,
+        });
     }
-    let c = blank_constraint();
-    ConstraintRead {
-        status: st,
-        constraint: c,
-    }
+    let q = reader_parts::take(s, p, opening)?;
+    constraint(period, s, q, names, invariant, closing)
 }
 
 // The guard of an edge, where there is one (SPECIFICATION 3.1).
-pub fn guard(period: usize, s: &[u8], st: Status, names: [Name; NAME_SLOTS]) -> ConstraintRead
+pub fn guard(
+    period: usize,
+    s: &[u8],
+    p: usize,
+    names: [Name; NAME_SLOTS],
+) -> Result<ConstraintRead, Fault>
     requires { TickLength period × (length s.now ≤ largest_text) }
-    ensures { result ≡ guard period s.now st names }
+    ensures { result ≡ guard period s.now p names }
 {
     optional(
         period,
         s,
-        st,
+        p,
         names,
         reader_tokens::GUARD,
         false,
@@ -320,14 +253,19 @@ pub fn guard(period: usize, s: &[u8], st: Status, names: [Name; NAME_SLOTS]) -> 
 }
 
 // The invariant of a location, where there is one (SPECIFICATION 3.1).
-pub fn invariant(period: usize, s: &[u8], st: Status, names: [Name; NAME_SLOTS]) -> ConstraintRead
+pub fn invariant(
+    period: usize,
+    s: &[u8],
+    p: usize,
+    names: [Name; NAME_SLOTS],
+) -> Result<ConstraintRead, Fault>
     requires { TickLength period × (length s.now ≤ largest_text) }
-    ensures { result ≡ invariant period s.now st names }
+    ensures { result ≡ invariant period s.now p names }
 {
     optional(
         period,
         s,
-        st,
+        p,
         names,
         reader_tokens::OPEN,
         true,

@@ -1,5 +1,5 @@
 -- The label of an edge: a channel and its mark, which says input or output (SPECIFICATION 3.1, 3.6).
-use Rattle.std.specs.Prelude.{Bool, true, false, cond, not, List, ℕ, ◌+◌, eqb, get_or}
+use Rattle.std.specs.Prelude.{Bool, true, false, cond, not, List, ℕ, ◌+◌, Result, Ok, Err, ◌==◌, if◌then◌else◌, get_or}
 use Rattle.reader_tokens.specs.Kinds as kinds
 use Rattle.reader_tokens.specs.Tokens.{token_at}
 use Rattle.reader_tokens.specs.declared.Token.{Token}
@@ -12,31 +12,23 @@ use Rattle.reader_record.specs.declared.Label.{Label}
 use Rattle.reader_record.specs.declared.Label.TheVariants as label
 use Rattle.reader_parts.specs.declared.Fault.{Fault}
 use Rattle.reader_parts.specs.declared.Fault.TheVariants.{Misfit, OtherMark}
-use Rattle.reader_parts.specs.declared.Status.{Status}
-use Rattle.reader_parts.specs.declared.Status.TheVariants.{At, Refused}
-use Rattle.reader_parts.specs.Status.{take}
+use Rattle.reader_parts.specs.Stages.{◌>>=◌, take}
 use Rattle.reader_parts.specs.Names.{use_name}
 use Rattle.reader_parts.specs.Slots.{first_channel}
 use Rattle.reader_edges.specs.declared.MarkRead.{MarkRead}
 use Rattle.reader_edges.specs.declared.LabelRead.{LabelRead}
 use Rattle.limits.specs.Limits.{channel_limit}
 
-abbrev pub no_mark : Fault → MarkRead
-no_mark f = record { status = Refused f; input = false }
-
 -- a token that has to be a mark (SPECIFICATION 3.1): whether it is that of an input (SPECIFICATION 3.6)
-unfoldable pub mark_of : Token → MarkRead
+unfoldable pub mark_of : Token → Result MarkRead Fault
 mark_of t =
-    cond (eqb t.kind kinds.input)
-    (record { status = At t.end; input = true })
-    (cond (eqb t.kind kinds.output)
-    (record { status = At t.end; input = false })
-    (no_mark (Misfit t.place)))
+    if t.kind == kinds.input then Ok (record { input = true; end = t.end })
+    else if t.kind == kinds.output then Ok (record { input = false; end = t.end })
+    else Err (Misfit t.place)
 
 -- the next token as a mark
-unfoldable pub mark_next : List ℕ → Status → MarkRead
-mark_next s (Refused f) = no_mark f
-mark_next s (At p) = mark_of (token_at s p)
+unfoldable pub mark_next : List ℕ → ℕ → Result MarkRead Fault
+mark_next s p = mark_of (token_at s p)
 
 -- whether a channel that the edges before use in the direction d may have the mark (SPECIFICATION 3.6)
 unfoldable pub fits : Direction → Bool → Bool
@@ -44,25 +36,20 @@ fits direction.Unused input = true
 fits direction.Input input = input
 fits direction.Output input = not input
 
--- the reader has come to st, past the mark of the channel whose name is at `place`: code 8 where the mark is not right
--- (SPECIFICATION 4.5)
-unfoldable pub mark_judged : Status → Bool → ℕ → Status
-mark_judged (Refused f) right place = Refused f
-mark_judged (At p) right place = cond right (At p) (Refused (OtherMark place))
+-- past the mark of the channel whose name is at `place`: code 8 where the mark is not right (SPECIFICATION 4.5)
+unfoldable pub mark_judged : Bool → ℕ → ℕ → Result ℕ Fault
+mark_judged right place p = if right then Ok p else Err (OtherMark place)
 
 -- number 0 among the channels' slots is channel 1 (SPECIFICATION 4.4)
 unfoldable pub label_of : Bool → ℕ → Label
 label_of input channel = cond input (label.Input (channel + 1)) (label.Output (channel + 1))
 
 -- the label (SPECIFICATION 3.1); `channels` says how the edges before use each channel
-unfoldable pub label_next : List ℕ → Status → List Name → List Channel → LabelRead
-label_next s st names channels =
-    let channel = use_name s (take s st kinds.sync) names first_channel channel_limit false in
-    let mark = mark_next s channel.status in
-    let right = fits (get_or channels channel.number no_channel).direction mark.input in
-    record {
-      status = take s (mark_judged mark.status right channel.place) kinds.semicolon;
-      channel = channel.number;
-      input = mark.input;
-      label = label_of mark.input channel.number;
-    }
+unfoldable pub label_next : List ℕ → ℕ → List Name → List Channel → Result LabelRead Fault
+label_next s p names channels = do
+  a ← take s p kinds.sync
+  channel ← use_name s a names first_channel channel_limit false
+  mark ← mark_next s channel.end
+  b ← mark_judged (fits (get_or channels channel.number no_channel).direction mark.input) channel.place mark.end
+  q ← take s b kinds.semicolon
+  Ok (record { channel = channel.number; input = mark.input; label = label_of mark.input channel.number; end = q })

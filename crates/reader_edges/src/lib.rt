@@ -1,62 +1,44 @@
 // Reads an edge of a contract text: its locations, guard, label and assignments (SPECIFICATION 3.1).
 #![tactic(auto)]
 
-ghost use Rattle.std.specs.Prelude.{◌≡◌, true, false, ◌+◌, ◌≤◌, ◌<◌, length, get_or};
+ghost use Rattle.std.specs.Prelude.{◌≡◌, ◌≤◌, ◌<◌, length, get_or};
 ghost use Rattle.reader_record.specs.Record.{no_channel};
-ghost use Rattle.reader_edges.specs.Labels.{no_mark, mark_next, fits, mark_judged, label_of, label_next};
+ghost use Rattle.reader_edges.specs.Labels.{mark_next, fits, mark_judged, label_of, label_next};
 ghost use Rattle.reader_edges.specs.Assigns.{no_assignments, then_assigned};
 ghost use Rattle.reader_edges.specs.Assigns.{assign_next, assign_items, assigns};
 ghost use Rattle.reader_edges.specs.Edges.{edge_next};
 ghost use Rattle.limits.specs.Limits.{TickLength, largest_text, channel_limit};
 
 use limits::{CHANNEL_LIMIT, CLOCK_LIMIT, LOCATION_LIMIT};
-use reader_parts::{FIRST_CHANNEL, FIRST_CLOCK, FIRST_LOCATION, Fault, NAME_SLOTS, Status};
+use reader_parts::{FIRST_CHANNEL, FIRST_CLOCK, FIRST_LOCATION, Fault, NAME_SLOTS};
 use reader_record::{Assignment, Channel, Direction, Edge, Label, Name};
 
 // The least constant that may be assigned: any may.
 const LEAST_ASSIGNED: usize = 0;
 
+// A mark, whether it is that of an input, and the place behind it.
 #[derive(Clone, Copy)]
 pub struct MarkRead {
-    pub status: Status,
     pub input: bool,
-}
-
-fn no_mark(f: Fault) -> MarkRead
-    ensures { result ≡ no_mark f }
-{
-    let st = Status::Refused(f);
-    MarkRead {
-        status: st,
-        input: false,
-    }
+    pub end: usize,
 }
 
 // The next token, which has to be `?` or `!`.
-fn mark_next(s: &[u8], st: Status) -> MarkRead
-    ensures { result ≡ mark_next s.now st }
+#[tactic(auto, unfolding(crate::specs::Labels::mark_next, crate::specs::Labels::mark_of))]
+fn mark_next(s: &[u8], p: usize) -> Result<MarkRead, Fault>
+    ensures { result ≡ mark_next s.now p }
 {
-    match st {
-        Status::Refused(f) => no_mark(f),
-        Status::At(p) => {
-            let t = reader_scanner::scan(s, p);
-            let k = t.kind;
-            let yes = Status::At(t.end);
-            if k == reader_tokens::INPUT {
-                return MarkRead {
-                    status: yes,
-                    input: true,
-                };
-            }
-            if k == reader_tokens::OUTPUT {
-                return MarkRead {
-                    status: yes,
-                    input: false,
-                };
-            }
-            let f = Fault::Misfit(t.place);
-            no_mark(f)
-        }
+    let t = reader_scanner::scan(s, p);
+    match t.kind {
+        reader_tokens::INPUT => Ok(MarkRead {
+            input: true,
+            end: t.end,
+        }),
+        reader_tokens::OUTPUT => Ok(MarkRead {
+            input: false,
+            end: t.end,
+        }),
+        _ => Err(Fault::Misfit(t.place)),
     }
 }
 
@@ -64,11 +46,11 @@ fn direction_at(channels: [Channel; CHANNEL_LIMIT], k: usize) -> Direction
     requires { k < channel_limit }
     ensures { result ≡ (get_or channels k no_channel).direction }
 {
-    let c = channels[k];
-    c.direction
+    channels[k].direction
 }
 
 // Whether a channel that the edges before use in the direction d may have the mark.
+#[tactic(auto, unfolding(crate::specs::Labels::fits))]
 fn fits(d: Direction, input: bool) -> bool
     ensures { result ≡ fits d input }
 {
@@ -79,21 +61,19 @@ fn fits(d: Direction, input: bool) -> bool
     }
 }
 
-fn mark_judged(st: Status, right: bool, place: usize) -> Status
-    ensures { result ≡ mark_judged st right place }
+// The place p, past the mark of the channel whose name is at `place`, where the mark is right.
+#[tactic(auto, unfolding(crate::specs::Labels::mark_judged))]
+fn mark_judged(right: bool, place: usize, p: usize) -> Result<usize, Fault>
+    ensures { result ≡ mark_judged right place p }
 {
-    match st {
-        Status::Refused(f) => Status::Refused(f),
-        Status::At(p) => {
-            if right {
-                return Status::At(p);
-            }
-            let f = Fault::OtherMark(place);
-            Status::Refused(f)
-        }
+    if right {
+        Ok(p)
+    } else {
+        Err(Fault::OtherMark(place))
     }
 }
 
+#[tactic(auto, unfolding(crate::specs::Labels::label_of))]
 fn label_of(input: bool, channel: usize) -> Label
     requires { channel < channel_limit }
     ensures { result ≡ label_of input channel }
@@ -104,78 +84,80 @@ fn label_of(input: bool, channel: usize) -> Label
     Label::Output((channel + 1) as u8)
 }
 
+// A label, its channel by its number from 0, whether it is an input, and the place behind it.
 #[derive(Clone, Copy)]
 pub struct LabelRead {
-    pub status: Status,
     pub channel: usize,
     pub input: bool,
     pub label: Label,
+    pub end: usize,
 }
 
 // The label: a channel and its mark (SPECIFICATION 3.1, 3.6).
+#[tactic(auto, unfolding(crate::specs::Labels::label_next))]
 fn label_next(
     s: &[u8],
-    st: Status,
+    p: usize,
     names: [Name; NAME_SLOTS],
     channels: [Channel; CHANNEL_LIMIT],
-) -> LabelRead
+) -> Result<LabelRead, Fault>
     requires { length s.now ≤ largest_text }
-    ensures { result ≡ label_next s.now st names channels }
+    ensures { result ≡ label_next s.now p names channels }
 {
-    let synced = reader_parts::take(s, st, reader_tokens::SYNC);
-    let channel = reader_parts::use_name(s, synced, names, FIRST_CHANNEL, CHANNEL_LIMIT, false);
-    let named = channel.status;
-    let mark = mark_next(s, named);
+    let synced = reader_parts::take(s, p, reader_tokens::SYNC)?;
+    let channel = reader_parts::use_name(s, synced, names, FIRST_CHANNEL, CHANNEL_LIMIT, false)?;
+    let mark = mark_next(s, channel.end)?;
     let k = channel.number;
-    let input = mark.input;
-    let direction = direction_at(channels, k);
-    let right = fits(direction, input);
-    let marked = mark.status;
-    let passed = mark_judged(marked, right, channel.place);
-    let end = reader_parts::take(s, passed, reader_tokens::SEMICOLON);
-    let label = label_of(input, k);
-    LabelRead {
-        status: end,
+    let right = fits(direction_at(channels, k), mark.input);
+    let marked = mark_judged(right, channel.place, mark.end)?;
+    let end = reader_parts::take(s, marked, reader_tokens::SEMICOLON)?;
+    Ok(LabelRead {
         channel: k,
-        input: input,
-        label: label,
-    }
+        input: mark.input,
+        label: label_of(mark.input, k),
+        end,
+    })
 }
 
+// An assignment: its clock by its number from 0, its value in ticks, and the place behind it.
 #[derive(Clone, Copy)]
 pub struct AssignRead {
-    pub status: Status,
     pub clock: usize,
     pub value: u16,
+    pub end: usize,
 }
 
 // An assignment (SPECIFICATION 3.1).
-fn assign_next(period: usize, s: &[u8], st: Status, names: [Name; NAME_SLOTS]) -> AssignRead
+#[tactic(auto, unfolding(crate::specs::Assigns::assign_next))]
+fn assign_next(
+    period: usize,
+    s: &[u8],
+    p: usize,
+    names: [Name; NAME_SLOTS],
+) -> Result<AssignRead, Fault>
     requires { TickLength period × (length s.now ≤ largest_text) }
-    ensures { result ≡ assign_next period s.now st names }
+    ensures { result ≡ assign_next period s.now p names }
 {
-    let clock = reader_parts::use_name(s, st, names, FIRST_CLOCK, CLOCK_LIMIT, false);
-    let named = clock.status;
-    let becomes = reader_parts::take(s, named, reader_tokens::BECOMES);
-    let given = reader_constraints::constant(period, s, becomes, LEAST_ASSIGNED);
-    let end = given.status;
-    let value = given.value as u16;
-    AssignRead {
-        status: end,
+    let clock = reader_parts::use_name(s, p, names, FIRST_CLOCK, CLOCK_LIMIT, false)?;
+    let becomes = reader_parts::take(s, clock.end, reader_tokens::BECOMES)?;
+    let given = reader_constraints::constant(period, s, becomes, LEAST_ASSIGNED)?;
+    Ok(AssignRead {
         clock: clock.number,
-        value: value,
-    }
+        value: given.value as u16,
+        end: given.end,
+    })
 }
 
+#[tactic(auto, unfolding(crate::specs::Assigns::no_assignments))]
 pub fn no_assignments() -> [Assignment; CLOCK_LIMIT]
     ensures { result ≡ no_assignments }
 {
-    let none = reader_record::no_assignment();
-    [none; CLOCK_LIMIT]
+    [reader_record::no_assignment(); CLOCK_LIMIT]
 }
 
 // The assignment of a clock that is assigned v after a: the last value counts, and the largest is kept beside it
 // (SPECIFICATION 5.4).
+#[tactic(auto, unfolding(crate::specs::Assigns::then_assigned))]
 fn then_assigned(a: Assignment, v: u16) -> Assignment
     ensures { result ≡ then_assigned a v }
 {
@@ -187,102 +169,102 @@ fn then_assigned(a: Assignment, v: u16) -> Assignment
     }
 }
 
+// What an edge does to each clock, and the place behind it.
 #[derive(Clone, Copy)]
 pub struct AssignsRead {
-    pub status: Status,
     pub assignments: [Assignment; CLOCK_LIMIT],
+    pub end: usize,
 }
 
 // The assignments after `assign`. Each comma that is taken leaves fewer bytes.
-fn assign_items(period: usize, s: &[u8], st: Status, names: [Name; NAME_SLOTS]) -> AssignsRead
+fn assign_items(
+    period: usize,
+    s: &[u8],
+    p: usize,
+    names: [Name; NAME_SLOTS],
+) -> Result<AssignsRead, Fault>
     requires { TickLength period × (length s.now ≤ largest_text) }
-    ensures { result ≡ assign_items period s.now names st no_assignments }
+    ensures { result ≡ assign_items period s.now names p no_assignments }
 {
-    let none = reader_record::no_assignment();
-    let mut all = [none; CLOCK_LIMIT];
-    let mut q = st;
+    let mut all = no_assignments();
+    let mut q = p;
     loop {
-        let x = assign_next(period, s, q, names);
-        let came = x.status;
-        let k = x.clock;
-        let before = all[k];
-        all[k] = then_assigned(before, x.value);
-        if !reader_parts::ahead(s, came, reader_tokens::COMMA) {
-            let end = reader_parts::take(s, came, reader_tokens::SEMICOLON);
-            return AssignsRead {
-                status: end,
+        let x = assign_next(period, s, q, names)?;
+        all[x.clock] = then_assigned(all[x.clock], x.value);
+        if !reader_parts::ahead(s, x.end, reader_tokens::COMMA) {
+            let end = reader_parts::take(s, x.end, reader_tokens::SEMICOLON)?;
+            return Ok(AssignsRead {
                 assignments: all,
-            };
+                end,
+            });
         }
-        q = reader_parts::take(s, came, reader_tokens::COMMA);
+        q = reader_parts::take(s, x.end, reader_tokens::COMMA)?;
     }
 }
 
 // The assignments of an edge, where there are any (SPECIFICATION 3.1).
-fn assigns(period: usize, s: &[u8], st: Status, names: [Name; NAME_SLOTS]) -> AssignsRead
+#[tactic(auto, unfolding(crate::specs::Assigns::assigns))]
+fn assigns(
+    period: usize,
+    s: &[u8],
+    p: usize,
+    names: [Name; NAME_SLOTS],
+) -> Result<AssignsRead, Fault>
     requires { TickLength period × (length s.now ≤ largest_text) }
-    ensures { result ≡ assigns period s.now st names }
+    ensures { result ≡ assigns period s.now p names }
 {
-    if reader_parts::ahead(s, st, reader_tokens::ASSIGN) {
-        let q = reader_parts::take(s, st, reader_tokens::ASSIGN);
-        return assign_items(period, s, q, names);
+    if !reader_parts::ahead(s, p, reader_tokens::ASSIGN) {
+        return Ok(AssignsRead {
+            assignments: no_assignments(),
+            end: p,
+        });
     }
-    let none = no_assignments();
-    AssignsRead {
-        status: st,
-        assignments: none,
-    }
+    let q = reader_parts::take(s, p, reader_tokens::ASSIGN)?;
+    assign_items(period, s, q, names)
 }
 
+// An edge, its channel by its number from 0, whether that is an input, and the place behind it.
 #[derive(Clone, Copy)]
 pub struct EdgeRead {
-    pub status: Status,
     pub channel: usize,
     pub input: bool,
     pub edge: Edge,
+    pub end: usize,
 }
 
 // An edge. `over`: it is one edge too many.
+#[tactic(auto, unfolding(crate::specs::Edges::edge_next))]
 pub fn edge_next(
     period: usize,
     s: &[u8],
-    st: Status,
+    p: usize,
     names: [Name; NAME_SLOTS],
     channels: [Channel; CHANNEL_LIMIT],
     over: bool,
-) -> EdgeRead
+) -> Result<EdgeRead, Fault>
     requires { TickLength period × (length s.now ≤ largest_text) }
-    ensures { result ≡ edge_next period s.now st names channels over }
+    ensures { result ≡ edge_next period s.now p names channels over }
 {
-    let source = reader_parts::use_name(s, st, names, FIRST_LOCATION, LOCATION_LIMIT, over);
-    let a = source.status;
-    let b = reader_parts::take(s, a, reader_tokens::ARROW);
-    let target = reader_parts::use_name(s, b, names, FIRST_LOCATION, LOCATION_LIMIT, false);
-    let c = target.status;
-    let d = reader_parts::take(s, c, reader_tokens::OPEN);
-    let given = reader_constraints::guard(period, s, d, names);
-    let e = given.status;
-    let labelled = label_next(s, e, names, channels);
-    let f = labelled.status;
-    let assigned = assigns(period, s, f, names);
-    let g = assigned.status;
-    let end = reader_parts::take(s, g, reader_tokens::CLOSE);
-    let guard = given.constraint;
-    let label = labelled.label;
+    let source = reader_parts::use_name(s, p, names, FIRST_LOCATION, LOCATION_LIMIT, over)?;
+    let a = reader_parts::take(s, source.end, reader_tokens::ARROW)?;
+    let target = reader_parts::use_name(s, a, names, FIRST_LOCATION, LOCATION_LIMIT, false)?;
+    let b = reader_parts::take(s, target.end, reader_tokens::OPEN)?;
+    let given = reader_constraints::guard(period, s, b, names)?;
+    let labelled = label_next(s, given.end, names, channels)?;
+    let assigned = assigns(period, s, labelled.end, names)?;
+    let end = reader_parts::take(s, assigned.end, reader_tokens::CLOSE)?;
     let assignments = assigned.assignments;
-    let from = source.number as u8;
-    let to = target.number as u8;
-    let made = Edge {
-        source: from,
-        target: to,
-        guard: guard,
-        label: label,
-        assignments: assignments,
+    let edge = Edge {
+        source: source.number as u8,
+        target: target.number as u8,
+        guard: given.constraint,
+        label: labelled.label,
+        assignments,
     };
-    EdgeRead {
-        status: end,
+    Ok(EdgeRead {
         channel: labelled.channel,
         input: labelled.input,
-        edge: made,
-    }
+        edge,
+        end,
+    })
 }

@@ -1,5 +1,5 @@
 -- Cases on a test, on an index of a list with one item stored or of equal items, and on where a run of items ends.
-use Rattle.std.specs.Prelude.{◌≡◌, refl, Bool, true, false, cond, ◌&&◌, eqb, ltb, length, get_or, set, replicate}
+use Rattle.std.specs.Prelude.{◌≡◌, refl, Bool, true, false, cond, ◌&&◌, ◌||◌, eqb, ltb, length, get_or, set, replicate}
 use Rattle.std.proofs.Common.{sym, arith, get_or-set_same, get_or-set_other, eqb-true, ltb-true, ltb-false}
 use mathlib.Core.List.{List, [], ◌∷◌}
 use Prim.Native.Nat.{ℕ, zero, suc, ◌<◌}
@@ -27,6 +27,15 @@ and_left false b e = never (sym e)
 pub and_right : (a b : Bool) → a && b ≡ true → b ≡ true
 and_right true b e = e
 and_right false b e = never (sym e)
+
+-- a test that fails on both sides
+pub or_left : (a b : Bool) → a || b ≡ false → a ≡ false
+or_left true b e = never e
+or_left false b e = refl
+
+pub or_right : (a b : Bool) → a || b ≡ false → b ≡ false
+or_right true b e = never e
+or_right false b e = e
 
 pub when_equal : (P : Type 0) (i j : ℕ) → (i ≡ j → P) → ((i ≡ j → ⊥) → P) → P
 when_equal P i j f g = by (eqb i j) refl

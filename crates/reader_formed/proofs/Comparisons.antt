@@ -1,6 +1,7 @@
 -- A guard or an invariant that is read: its clocks are declared, its constants are allowed, and in an invariant every
 -- sign is `<=`, or `<` before a constant above 0.
-use Rattle.std.specs.Prelude.{◌≡◌, refl, Bool, List, T, eqb, ltb, length, drop}
+use Rattle.std.specs.Prelude.{◌≡◌, refl, Bool, List, T, Result, Ok, Option, Some, None, IfOk, eqb, ltb, length, drop}
+use Rattle.std.proofs.lemmas.Result.{IfOk-weaker}
 use Rattle.std.proofs.Common.{sym, ◌∙◌, arith, lt→ltb, length-set}
 use Rattle.std.proofs.Math.Bool.{true, false}
 use Prim.Native.Nat.{ℕ, zero, suc, ◌+◌, ◌≤◌, ◌<◌}
@@ -16,53 +17,48 @@ use Rattle.reader_record.specs.Formed.{in_invariant}
 use Rattle.reader_record.specs.declared.Comparison.{Comparison}
 use Rattle.reader_record.specs.declared.Constraint.{Constraint}
 use Rattle.reader_record.specs.Record as record_of
-use Rattle.reader_parts.specs.declared.Status.{Status}
-use Rattle.reader_parts.specs.declared.Status.TheVariants.{At, Refused}
-use Rattle.reader_parts.specs.Status.{take, ahead}
+use Rattle.reader_parts.specs.declared.Fault.{Fault}
+use Rattle.reader_parts.specs.Stages.{take, ahead}
+use Rattle.reader_parts.specs.Binds.{and_then, after}
 use Rattle.reader_constraints.specs.declared.Amount.{Amount}
 use Rattle.reader_constraints.specs.declared.SignRead.{SignRead}
 use Rattle.reader_constraints.specs.declared.ComparisonRead.{ComparisonRead}
 use Rattle.reader_constraints.specs.declared.ConstraintRead.{ConstraintRead}
-use Rattle.reader_constraints.proofs.Facts.{constant_small}
-use Rattle.reader_constraints.specs.Constraints.{in_ticks, constant_of, constant, least_after, least_constant, sign_of, sign_next, comparison_next, blank_constraint, with_comparison, constraint_from, constraint, optional}
+use Rattle.reader_constraints.specs.Constraints.{in_ticks, constant_of, constant, least_after, least_constant, sign_of, found_sign, sign_next, comparison_next, blank_constraint, with_comparison, constraint_from, constraint, optional}
 use Rattle.reader_formed.proofs.Cases.{split, either, never, stored}
-use Rattle.reader_formed.proofs.Going.{Going, take_going}
-use Rattle.reader_formed.proofs.Declared.{used}
+use Rattle.reader_formed.proofs.Declared.{Used, used}
 use Rattle.reader_formed.proofs.Slots.{Known, used_below}
 use Rattle.limits.specs.Limits.{clock_limit, comparison_limit, largest_constant}
 
 -- a constant that is read
-pub record Constant (least : ℕ) (st : Status) (a : Amount) : Type 0 where
-  pub before : Going st
+pub record Constant (least : ℕ) (a : Amount) : Type 0 where
   pub bound : a.value ≤ largest_constant
   pub enough : least ≤ a.value
 
--- a sign that is read
-record Signed (st : Status) (only : Bool) (r : SignRead) : Type 0 where
-  before : Going st
-  sign : only ≡ true → (b : ℕ) → least_after r.sign ≤ b → T (in_invariant r.sign b)
-
 -- a sign of an invariant, before a constant that may stand after it
-of_sign :
-    (only : Bool) (t : Token) → Going (sign_of only t).status → only ≡ true → (b : ℕ)
-    → least_after (sign_of only t).sign ≤ b → T (in_invariant (sign_of only t).sign b)
+abbrev Signed : Bool → SignRead → Type 0
+Signed only r = only ≡ true → (b : ℕ) → least_after r.sign ≤ b → T (in_invariant r.sign b)
+
+of_sign : (only : Bool) (t : Token) → IfOk (found_sign t (sign_of only t.kind)) (Signed only)
 unfolding sign_of least_after in_invariant
 of_sign only t =
     split P (eqb t.kind kinds.at_most)
-    (λ _ g o b h. tt)
+    (λ _ o b h. tt)
     (λ _. split P (eqb t.kind kinds.less)
-    (λ _ g o b h. lt→ltb 0 b h)
-    (λ _. split P only (λ _ g. absurd g) (λ e g o. never (sym o ∙ e))))
+    (λ _ o b h. lt→ltb 0 b h)
+    (λ _. split P only (λ _. tt) (λ e. not_only e _)))
   where
-    P : SignRead → Type 0
-    P r = Going r.status → only ≡ true → (b : ℕ) → least_after r.sign ≤ b → T (in_invariant r.sign b)
+    P : Option Sign → Type 0
+    P o = IfOk (found_sign t o) (Signed only)
 
-sign_read :
-    (s : List ℕ) (st : Status) (only : Bool) → Going (sign_next s st only).status
-    → Signed st only (sign_next s st only)
+    -- a guard's sign
+    not_only : only ≡ false → (o : Option Sign) → P o
+    not_only e (Some o) = λ q. never (sym q ∙ e)
+    not_only e None = tt
+
+sign_read : (s : List ℕ) (p : ℕ) (only : Bool) → IfOk (sign_next s p only) (Signed only)
 unfolding sign_next
-sign_read s (At p) only g = record { before = tt; sign = of_sign only (token_at s p) g }
-sign_read s (Refused f) only g = absurd g
+sign_read s p only = of_sign only (token_at s p)
 
 -- a comparison in a text with so many clocks; `only`: it has only what an invariant may have
 pub record FormedComparison (clocks : ℕ) (only : Bool) (x : Comparison) : Type 0 where
@@ -110,133 +106,84 @@ whole :
 whole clocks only room c h = record { few = omega (arith, h.limit); each = h.each }
 
 module _ (period : ℕ) where
-  of_constant :
-      (least : ℕ) (s : List ℕ) (t : Token) → Going (constant_of period least s t).status
-      → least ≤ (constant_of period least s t).value
+  of_constant : (least : ℕ) (s : List ℕ) (t : Token) → IfOk (constant_of period least s t) (Constant least)
   unfolding constant_of
   of_constant least s t =
       split P (eqb t.kind kinds.numeral)
       (λ _. split P (ltb largest_constant v)
-      (λ _ g. absurd g)
-      (λ _. split P (ltb v least) (λ _ g. absurd g) (λ e _. ltb-false v least e)))
-      (λ _ g. absurd g)
+      (λ _. tt)
+      (λ l. split P (ltb v least)
+      (λ _. tt)
+      (λ e. record { bound = ltb-false largest_constant v l; enough = ltb-false v least e })))
+      (λ _. tt)
     where
       v : ℕ
       v = in_ticks period (numeral_value 0 (drop t.place s))
 
-      P : Amount → Type 0
-      P a = Going a.status → least ≤ a.value
+      P : Result Amount Fault → Type 0
+      P a = IfOk a (Constant least)
 
-  pub constant_read :
-      (least : ℕ) (s : List ℕ) (st : Status) → Going (constant period least s st).status
-      → Constant least st (constant period least s st)
+  pub constant_read : (least : ℕ) (s : List ℕ) (p : ℕ) → IfOk (constant period least s p) (Constant least)
   unfolding constant
-  constant_read least s (At p) g = record {
-    before = tt;
-    bound = constant_small period least s (At p);
-    enough = of_constant least s (token_at s p) g;
-  }
-  constant_read least s (Refused f) g = absurd g
+  constant_read least s p = of_constant least s (token_at s p)
 
   module _ (s : List ℕ) (names : List Name) (only : Bool) where
-    pub record Compared (st : Status) (x : ComparisonRead) : Type 0 where
-      pub before : Going st
-      pub formed :
-          (clocks : ℕ) → Known s names first_clock clock_limit clocks → FormedComparison clocks only x.comparison
+    -- a comparison that is read
+    abbrev Compared : ComparisonRead → Type 0
+    Compared x = (clocks : ℕ) → Known s names first_clock clock_limit clocks → FormedComparison clocks only x.comparison
 
-    compared :
-        (st : Status) (over : Bool) → Going (comparison_next period s st names only over).status
-        → Compared st (comparison_next period s st names only over)
+    compared : (p : ℕ) (over : Bool) → IfOk (comparison_next period s p names only over) Compared
     unfolding comparison_next
-    compared st over g =
-        let c = constant_read _ s _ g in
-        let i = sign_read s _ only c.before in
-        let u = used s names first_clock clock_limit (omega arith) over st i.before in
-        record {
-          before = u.before;
-          formed = λ n k. record {
-            clock = used_below s st names first_clock clock_limit n _ u k;
-            bound = c.bound;
-            sign = λ o. i.sign o _ (least_invariant only _ _ o c.enough);
-          };
-        }
+    compared p over =
+        and_then _ _ (Used names first_clock clock_limit over) _
+        (used s names first_clock clock_limit (omega arith) over p)
+        (λ clock u. and_then _ _ (Signed only) _ (sign_read s clock.end only)
+        (λ read i. and_then _ _ (Constant (least_constant only read.sign)) _ (constant_read _ s read.end)
+        (λ bound c n k. record {
+          clock = used_below s names first_clock clock_limit n _ u k;
+          bound = c.bound;
+          sign = λ o. i o _ (least_invariant only _ _ o c.enough);
+        })))
 
-  -- a constraint that is read: the reader went on before it, and it is formed where what came before is
-  module _ (s : List ℕ) (names : List Name) (only : Bool) where
-    record Constrained (room : ℕ) (st : Status) (c : Constraint) (r : ConstraintRead) : Type 0 where
-      before : Going st
-      formed :
-          (clocks : ℕ) → Known s names first_clock clock_limit clocks → SoFar clocks only room c
-          → FormedComparisons clocks only r.constraint
+    -- a constraint that is read is formed where what came before is
+    abbrev Constrained : ℕ → Constraint → ConstraintRead → Type 0
+    Constrained room c r = (clocks : ℕ) → Known s names first_clock clock_limit clocks → SoFar clocks only room c
+        → FormedComparisons clocks only r.constraint
 
-    from_read :
-        (closing room : ℕ) (st : Status) (c : Constraint)
-        → Going (constraint_from period room s names only closing st c).status
-        → Constrained room st c (constraint_from period room s names only closing st c)
+    from_read : (closing room p : ℕ) (c : Constraint)
+        → IfOk (constraint_from period room s names only closing p c) (Constrained room c)
     unfolding constraint_from
-    from_read closing zero st c =
-        λ g. record { before = (compared s names only st true g).before; formed = λ n k h. whole n only zero c h }
-    from_read closing (suc room) st c =
-        either P (ahead s (comparison_next period s st names only false).status kinds.both)
-        (λ g. more (from_read closing room _ _ g))
-        (λ g. last (compared s names only st false (take_going s _ closing g)))
+    from_read closing zero p c =
+        and_then _ _ Compared _ (compared p true) (λ x _ n k h. whole n only zero c h)
+    from_read closing (suc room) p c =
+        and_then _ _ Compared _ (compared p false)
+        (λ x m. either P (ahead s x.end kinds.both)
+        (after _ _ (Constrained (suc room) c)
+        (λ q. IfOk-weaker _ (Constrained room (with_comparison c x.comparison)) (Constrained (suc room) c)
+        (λ r f n k h. f n k (with_one n only room c x.comparison (m n k) h))
+        (from_read closing room q (with_comparison c x.comparison))))
+        (after _ (λ q. Ok (record { constraint = with_comparison c x.comparison; end = q })) (Constrained (suc room) c)
+        (λ q n k h. whole n only room (with_comparison c x.comparison)
+        (with_one n only room c x.comparison (m n k) h))))
       where
-        P : ConstraintRead → Type 0
-        P r = Going r.status → Constrained (suc room) st c r
+        P : Result ConstraintRead Fault → Type 0
+        P r = IfOk r (Constrained (suc room) c)
 
-        x : ComparisonRead
-        x = comparison_next period s st names only false
+    -- an optional constraint that is read
+    abbrev pub IsConstraintRead : ConstraintRead → Type 0
+    IsConstraintRead r = (clocks : ℕ) → Known s names first_clock clock_limit clocks → FormedComparisons clocks only r.constraint
 
-        last :
-            Compared s names only st x → {to : Status}
-            → Constrained (suc room) st c (record { status = to; constraint = with_comparison c x.comparison })
-        last m = record {
-          before = m.before;
-          formed = λ n k h. whole n only room (with_comparison c x.comparison)
-              (with_one n only room c x.comparison (m.formed n k) h);
-        }
-
-        more :
-            {r : ConstraintRead}
-            → Constrained room (take s x.status kinds.both) (with_comparison c x.comparison) r
-            → Constrained (suc room) st c r
-        more q =
-            let m = compared s names only st false (take_going s x.status kinds.both q.before) in
-            record {
-              before = m.before;
-              formed = λ n k h. q.formed n k (with_one n only room c x.comparison (m.formed n k) h);
-            }
-
-    pub record IsConstraintRead (st : Status) (r : ConstraintRead) : Type 0 where
-      pub before : Going st
-      pub formed :
-          (clocks : ℕ) → Known s names first_clock clock_limit clocks → FormedComparisons clocks only r.constraint
-
-    given :
-        (closing : ℕ) (st : Status) → Going (constraint period s st names only closing).status
-        → IsConstraintRead st (constraint period s st names only closing)
+    given : (closing p : ℕ) → IfOk (constraint period s p names only closing) IsConstraintRead
     unfolding constraint
-    given closing st g =
-        let q = from_read closing comparison_limit st blank_constraint g in
-        record { before = q.before; formed = λ n k. q.formed n k (none_yet n only) }
+    given closing p = IfOk-weaker _ (Constrained comparison_limit blank_constraint) IsConstraintRead (λ r f n k. f n k (none_yet n only))
+        (from_read closing comparison_limit p blank_constraint)
 
-    absent : (st : Status) → Going st → IsConstraintRead st (record { status = st; constraint = blank_constraint })
-    absent st g = record {
-      before = g;
-      formed = λ n k. whole n only comparison_limit blank_constraint
-          (none_yet n only);
-    }
-
-    after_token : (st : Status) (k : ℕ) {r : ConstraintRead} → IsConstraintRead (take s st k) r → IsConstraintRead st r
-    after_token st k q = record { before = take_going s st k q.before; formed = q.formed }
-
-  -- an optional constraint that is read
   pub optional_read :
-      (opening : ℕ) (only : Bool) (closing : ℕ) (s : List ℕ) (st : Status) (names : List Name)
-      → Going (optional period opening only closing s st names).status
-      → IsConstraintRead s names only st (optional period opening only closing s st names)
+      (opening : ℕ) (only : Bool) (closing : ℕ) (s : List ℕ) (p : ℕ) (names : List Name)
+      → IfOk (optional period opening only closing s p names) (IsConstraintRead s names only)
   unfolding optional
-  optional_read opening only closing s st names =
-      either (λ (r : ConstraintRead). Going r.status → IsConstraintRead s names only st r) (ahead s st opening)
-      (λ g. after_token s names only st opening (given s names only closing (take s st opening) g))
-      (λ g. absent s names only st g)
+  optional_read opening only closing s p names =
+      either (λ (r : Result ConstraintRead Fault). IfOk r (IsConstraintRead s names only)) (ahead s p opening)
+      (after (take s p opening) (λ q. constraint period s q names only closing) (IsConstraintRead s names only)
+      (λ q. given s names only closing q))
+      (λ n k. whole n only comparison_limit blank_constraint (none_yet n only))

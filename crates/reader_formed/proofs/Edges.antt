@@ -1,7 +1,8 @@
 -- An edge that is read: its locations, clocks and channel are declared, and its mark fits the channel's earlier uses.
-use Rattle.std.specs.Prelude.{◌≡◌, refl, Bool, true, List, T, length, get_or, replicate}
+use Rattle.std.specs.Prelude.{◌≡◌, refl, Bool, true, List, T, Result, Ok, IfOk, if◌then◌else◌, length, get_or, replicate}
 use Rattle.std.proofs.Common.{sym, ap, ◌∙◌, arith, get_or-set_other}
 use Rattle.std.proofs.Math.Bool.{false}
+use Rattle.std.proofs.lemmas.Result.{IfOk-weaker}
 use Prim.Native.Nat.{ℕ, zero, suc, ◌+◌, ◌≤◌, ◌<◌}
 use Rattle.reader_parts.specs.Slots.{first_channel, first_clock, first_location}
 use Rattle.reader_tokens.specs.Kinds as kinds
@@ -14,9 +15,10 @@ use Rattle.reader_record.specs.declared.Label.TheVariants as label
 use Rattle.reader_record.specs.declared.Assignment.{Assignment}
 use Rattle.reader_record.specs.Record.{no_channel, no_assignment, channel}
 use Rattle.reader_record.specs.Formed.{agrees, FormedAssignments}
-use Rattle.reader_parts.specs.declared.Status.{Status}
-use Rattle.reader_parts.specs.declared.Status.TheVariants.{At, Refused}
-use Rattle.reader_parts.specs.Status.{take, ahead}
+use Rattle.reader_parts.specs.declared.Fault.{Fault}
+use Rattle.reader_parts.specs.declared.Use.{Use}
+use Rattle.reader_parts.specs.Stages.{◌>>=◌, take, ahead}
+use Rattle.reader_parts.specs.Binds.{and_then, after}
 use Rattle.reader_edges.specs.declared.LabelRead.{LabelRead}
 use Rattle.reader_edges.specs.declared.AssignRead.{AssignRead}
 use Rattle.reader_edges.specs.declared.AssignsRead.{AssignsRead}
@@ -26,27 +28,16 @@ use Rattle.reader_edges.specs.Assigns.{no_assignments, then_assigned, with_assig
 use Rattle.reader_edges.specs.Edges.{edge_next}
 use Rattle.reader_lists.specs.State.{direction_by}
 use Rattle.reader_formed.proofs.Cases.{either, never, when_equal, set_each, blank}
-use Rattle.reader_formed.proofs.Going.{Going, take_going}
-use Rattle.reader_formed.proofs.Declared.{used}
+use Rattle.reader_formed.proofs.Declared.{Used, used}
 use Rattle.reader_formed.proofs.Slots.{Known, used_below}
-use Rattle.reader_formed.proofs.Comparisons.{FormedComparisons, constant_read, optional_read}
+use Rattle.reader_formed.proofs.Comparisons.{FormedComparisons, Constant, constant_read, IsConstraintRead, optional_read}
 use Rattle.limits.specs.Limits.{channel_limit, clock_limit, location_limit, largest_constant}
 
-mark_going : (s : List ℕ) (st : Status) → Going (mark_next s st).status → Going st
-unfolding mark_next
-mark_going s (At p) g = tt
-mark_going s (Refused f) g = g
-
-judged_going : (st : Status) (right : Bool) (place : ℕ) → Going (mark_judged st right place) → Going st
+-- a mark that is judged is right
+judged_right : (right : Bool) (place p : ℕ) → IfOk (mark_judged right place p) (λ q. right ≡ true)
 unfolding mark_judged
-judged_going (At p) right place g = tt
-judged_going (Refused f) right place g = g
-
-judged_right : (st : Status) (right : Bool) (place : ℕ) → Going (mark_judged st right place) → right ≡ true
-unfolding mark_judged
-judged_right (At p) true place g = refl
-judged_right (At p) false place g = absurd g
-judged_right (Refused f) right place g = absurd g
+judged_right true place p = refl
+judged_right false place p = tt
 
 -- the label has the mark's direction and the channel's number, from 1
 pub label_channel : (input : Bool) (k : ℕ) → channel (label_of input k) ≡ k + 1
@@ -78,26 +69,28 @@ abbrev pub direction_at : List Channel → ℕ → Direction
 direction_at channels k = (get_or channels k no_channel).direction
 
 -- a label that is read
-record Labelled (s : List ℕ) (st : Status) (names : List Name) (channels : List Channel) (r : LabelRead) : Type 0 where
-  before : Going st
+record Labelled (s : List ℕ) (names : List Name) (channels : List Channel) (r : LabelRead) : Type 0 where
   right : fits (direction_at channels r.channel) r.input ≡ true
   same : r.label ≡ label_of r.input r.channel
   known : (count : ℕ) → Known s names first_channel channel_limit count → r.channel < count
 
 labelled :
-    (s : List ℕ) (st : Status) (names : List Name) (channels : List Channel)
-    → Going (label_next s st names channels).status → Labelled s st names channels (label_next s st names channels)
+    (s : List ℕ) (p : ℕ) (names : List Name) (channels : List Channel)
+    → IfOk (label_next s p names channels) (Labelled s names channels)
 unfolding label_next
-labelled s st names channels g =
-    let j = take_going s _ kinds.semicolon g in
-    let m = judged_going _ _ _ j in
-    let u = used s names first_channel channel_limit (omega arith) false (take s st kinds.sync) (mark_going s _ m) in
-    record {
-      before = take_going s st kinds.sync u.before;
-      right = judged_right _ _ _ j;
+labelled s p names channels =
+    after (take s p kinds.sync) _ _
+    (λ a. and_then _ _ (Used names first_channel channel_limit false) _
+    (used s names first_channel channel_limit (omega arith) false a)
+    (λ channel u. after (mark_next s channel.end) _ _
+    (λ mark. and_then _ _ (λ q. fits (direction_at channels channel.number) mark.input ≡ true) _
+    (judged_right _ channel.place mark.end)
+    (λ b r. after (take s b kinds.semicolon) _ _
+    (λ q. record {
+      right = r;
       same = refl;
-      known = λ n k. used_below s (take s st kinds.sync) names first_channel channel_limit n _ u k;
-    }
+      known = λ n k. used_below s names first_channel channel_limit n _ u k;
+    })))))
 
 -- no assignment, and one more
 none_assigned : (count : ℕ) → FormedAssignments count no_assignments
@@ -126,107 +119,94 @@ one_assigned count j v all l b h = record {
 
 module _ (period : ℕ) (s : List ℕ) (names : List Name) where
   -- an item of `assign` that is read
-  record ItemRead (st : Status) (r : AssignRead) : Type 0 where
-    before : Going st
+  record ItemRead (r : AssignRead) : Type 0 where
     known : (count : ℕ) → Known s names first_clock clock_limit count → r.clock < count
     bound : r.value ≤ largest_constant
 
-  item_read :
-      (st : Status) → Going (assign_next period s st names).status → ItemRead st (assign_next period s st names)
+  item_read : (p : ℕ) → IfOk (assign_next period s p names) ItemRead
   unfolding assign_next
-  item_read st g =
-      let c = constant_read period 0 s _ g in
-      let u = used s names first_clock clock_limit (omega arith) false st (take_going s _ kinds.becomes c.before) in
-      record {
-        before = u.before;
-        known = λ n k. used_below s st names first_clock clock_limit n _ u k;
-        bound = c.bound;
-      }
+  item_read p =
+      and_then _ _ (Used names first_clock clock_limit false) _ (used s names first_clock clock_limit (omega arith) false p)
+      (λ clock u. after (take s clock.end kinds.becomes) _ _
+      (λ a. and_then _ _ (Constant 0) _ (constant_read period 0 s a)
+      (λ given c. record { known = λ n k. used_below s names first_clock clock_limit n _ u k; bound = c.bound })))
 
   -- assignments that are read, after those before
-  record IsAssignsRead (st : Status) (all : List Assignment) (r : AssignsRead) : Type 0 where
-    before : Going st
-    assigned :
-        (count : ℕ) → Known s names first_clock clock_limit count → FormedAssignments count all
-        → FormedAssignments count r.assignments
+  abbrev IsAssignsRead : List Assignment → AssignsRead → Type 0
+  IsAssignsRead all r = (count : ℕ) → Known s names first_clock clock_limit count → FormedAssignments count all
+      → FormedAssignments count r.assignments
 
-  items_read :
-      (room : ℕ) (st : Status) (all : List Assignment) → Going (assigns_from period room s names st all).status
-      → IsAssignsRead st all (assigns_from period room s names st all)
+  items_read : (room p : ℕ) (all : List Assignment) → IfOk (assigns_from period room s names p all) (IsAssignsRead all)
   unfolding assigns_from
-  items_read zero st all = λ g. absurd g
-  items_read (suc room) st all =
-      either P (ahead s x.status kinds.comma)
-      (λ g. more (items_read room _ _ g))
-      (λ g. last (item_read st (take_going s _ kinds.semicolon g)))
+  items_read zero p all = tt
+  items_read (suc room) p all = and_then _ _ ItemRead _ (item_read p) (rest (items_read room))
     where
-      P : AssignsRead → Type 0
-      P r = Going r.status → IsAssignsRead st all r
+      P : Result AssignsRead Fault → Type 0
+      P r = IfOk r (IsAssignsRead all)
 
-      x : AssignRead
-      x = assign_next period s st names
+      all_with : AssignRead → List Assignment
+      all_with x = with_assignment all x.clock x.value
 
-      last :
-          ItemRead st x → {to : Status}
-          → IsAssignsRead st all (record { status = to; assignments = with_assignment all x.clock x.value })
-      last m = record {
-        before = m.before;
-        assigned = λ n k h. one_assigned n x.clock x.value all (m.known n k) m.bound h;
-      }
+      one : (x : AssignRead) → ItemRead x → (n : ℕ) → Known s names first_clock clock_limit n
+          → FormedAssignments n all → FormedAssignments n (all_with x)
+      one x m n k h = one_assigned n x.clock x.value all (m.known n k) m.bound h
 
-      more :
-          {r : AssignsRead} → IsAssignsRead (take s x.status kinds.comma) (with_assignment all x.clock x.value) r
-          → IsAssignsRead st all r
-      more q =
-          let m = item_read st (take_going s x.status kinds.comma q.before) in
-          record {
-            before = m.before;
-            assigned = λ n k h. q.assigned n k (one_assigned n x.clock x.value all (m.known n k) m.bound h);
-          }
+      rest : ((q : ℕ) (before : List Assignment) → IfOk (assigns_from period room s names q before) (IsAssignsRead before))
+          → (x : AssignRead) → ItemRead x → P (if ahead s x.end kinds.comma
+          then take s x.end kinds.comma >>= (λ q. assigns_from period room s names q (all_with x))
+          else take s x.end kinds.semicolon >>= (λ q. Ok (record { assignments = all_with x; end = q })))
+      rest again x m = either P (ahead s x.end kinds.comma)
+          (after (take s x.end kinds.comma) (λ q. assigns_from period room s names q (all_with x)) (IsAssignsRead all)
+          (λ q. IfOk-weaker _ (IsAssignsRead (all_with x)) (IsAssignsRead all)
+          (λ r f n k h. f n k (one x m n k h)) (again q (all_with x))))
+          (after (take s x.end kinds.semicolon) (λ q. Ok (record { assignments = all_with x; end = q })) (IsAssignsRead all)
+          (λ q n k h. one x m n k h))
 
-  assigns_read :
-      (st : Status) → Going (assigns period s st names).status → IsAssignsRead st no_assignments (assigns period s st names)
+  assigns_read : (p : ℕ) → IfOk (assigns period s p names) (IsAssignsRead no_assignments)
   unfolding assigns assign_items
-  assigns_read st =
-      either (λ (r : AssignsRead). Going r.status → IsAssignsRead st no_assignments r) (ahead s st kinds.assign)
-      (λ g. let q = items_read (suc (length s)) _ _ g in
-      record { before = take_going s st kinds.assign q.before; assigned = q.assigned })
-      (λ g. record { before = g; assigned = λ n k h. h })
+  assigns_read p =
+      either (λ (r : Result AssignsRead Fault). IfOk r (IsAssignsRead no_assignments)) (ahead s p kinds.assign)
+      (after (take s p kinds.assign) (λ q. assign_items period s names q no_assignments) (IsAssignsRead no_assignments)
+      (λ q. items_read (suc (length s)) q no_assignments))
+      (λ n k h. h)
 
 -- an edge that is read
-pub record IsEdgeRead (s : List ℕ) (st : Status) (names : List Name) (channels : List Channel) (r : EdgeRead) : Type 0
+pub record IsEdgeRead (s : List ℕ) (names : List Name) (channels : List Channel) (over : Bool) (r : EdgeRead) : Type 0
   where
-    pub before : Going st
+    pub room : over ≡ false
     pub right : fits (direction_at channels r.channel) r.input ≡ true
     pub label : r.edge.label ≡ label_of r.input r.channel
     pub known : (count : ℕ) → Known s names first_channel channel_limit count → r.channel < count
-    pub guard :
-        (count : ℕ) → Known s names first_clock clock_limit count → FormedComparisons count false r.edge.guard
+    pub guard : (count : ℕ) → Known s names first_clock clock_limit count → FormedComparisons count false r.edge.guard
     pub source : (count : ℕ) → Known s names first_location location_limit count → r.edge.source < count
     pub target : (count : ℕ) → Known s names first_location location_limit count → r.edge.target < count
     pub assigned : (count : ℕ) → Known s names first_clock clock_limit count → FormedAssignments count r.edge.assignments
 
 module _ (period : ℕ) where
   pub edge_read :
-      (s : List ℕ) (st : Status) (names : List Name) (channels : List Channel) (over : Bool)
-      → Going (edge_next period s st names channels over).status
-      → IsEdgeRead s st names channels (edge_next period s st names channels over)
+      (s : List ℕ) (p : ℕ) (names : List Name) (channels : List Channel) (over : Bool)
+      → IfOk (edge_next period s p names channels over) (IsEdgeRead s names channels over)
   unfolding edge_next
-  edge_read s st names channels over g =
-      let a = assigns_read period s names _ (take_going s _ kinds.closes g) in
-      let l = labelled s _ names channels a.before in
-      let q = optional_read period kinds.guard false kinds.semicolon s _ names l.before in
-      let t = used s names first_location location_limit (omega arith) false _
-      (take_going s _ kinds.opens q.before) in
-      let o = used s names first_location location_limit (omega arith) over st
-      (take_going s _ kinds.arrow t.before) in
-      record {
-        before = o.before;
+  edge_read s p names channels over =
+      and_then _ _ (location over) _ (used s names first_location location_limit (omega arith) over p)
+      (λ source o. after (take s source.end kinds.arrow) _ _
+      (λ a. and_then _ _ (location false) _ (used s names first_location location_limit (omega arith) false a)
+      (λ target t. after (take s target.end kinds.opens) _ _
+      (λ b. and_then _ _ (IsConstraintRead period s names false) _
+      (optional_read period kinds.guard false kinds.semicolon s b names)
+      (λ given g. and_then _ _ (Labelled s names channels) _ (labelled s given.end names channels)
+      (λ marked l. and_then _ _ (IsAssignsRead period s names no_assignments) _ (assigns_read period s names marked.end)
+      (λ assigned a. after (take s assigned.end kinds.closes) _ _
+      (λ q. record {
+        room = o.allowed;
         right = l.right;
         label = l.same;
         known = l.known;
-        guard = q.formed;
-        source = λ n k. used_below s st names first_location location_limit n _ o k;
-        target = λ n k. used_below s _ names first_location location_limit n _ t k;
-        assigned = λ n k. a.assigned n k (none_assigned n);
-      }
+        guard = g;
+        source = λ n k. used_below s names first_location location_limit n _ o k;
+        target = λ n k. used_below s names first_location location_limit n _ t k;
+        assigned = λ n k. a n k (none_assigned n);
+      }))))))))
+    where
+      location : Bool → Use → Type 0
+      location = Used names first_location location_limit

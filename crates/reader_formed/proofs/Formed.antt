@@ -8,99 +8,102 @@ use Rattle.reader_record.specs.declared.Name.{Name}
 use Rattle.reader_record.specs.declared.Constraint.{Constraint}
 use Rattle.reader_record.specs.declared.Text.{Text}
 use Rattle.reader_record.specs.Formed.{FormedConstraint, WellFormed}
-use Rattle.reader_parts.specs.declared.Status.{Status}
-use Rattle.reader_parts.specs.declared.Status.TheVariants as status
-use Rattle.reader_parts.specs.Status.{ahead}
-use Rattle.reader_parts.specs.Names.{declare, use_name}
+use Rattle.reader_parts.specs.declared.Fault.{Fault}
+use Rattle.reader_parts.specs.Stages.{◌>>=◌, take, ahead}
+use Rattle.reader_parts.specs.Binds.{and_then, after}
 use Rattle.reader_lists.specs.Lists.{Item}
-use Rattle.reader_lists.specs.Lists.Item.{Channel, Location}
+use Rattle.reader_lists.specs.Lists.Item.{Channel, Clock, Location, Edge}
 use Rattle.reader_lists.specs.State.{State}
-use Rattle.reader_lists.specs.State.{with_init}
+use Rattle.reader_lists.specs.State.{next_token}
+use Rattle.reader_lists.specs.Lists.{items}
 use Rattle.refusals.specs.declared.Refusal.{Refusal}
 use Rattle.refusals.specs.Answers.{answer_of}
-use Rattle.reader.specs.Reading.{start, channel_part, list_part, process_part, location_part, init_part, end_part, read_whole, answer, record_of, read_text}
+use Rattle.reader.specs.Reading.{start, channel_part, list_part, process_read, process_part, location_part, init_read, init_part, end_read, end_part, read_whole, answer, record_of, read_text}
 use Rattle.reader_formed.specs.Promise.{NamesWithin, NamesDiffer, Unlike}
 use Rattle.reader_formed.proofs.Cases.{split, either}
-use Rattle.reader_formed.proofs.Going.{Going}
-use Rattle.reader_formed.proofs.Declared.{declared, used}
+use Rattle.reader_formed.proofs.Declared.{Declared, declared, Used, used}
 use Rattle.reader_formed.proofs.Slots.{Kind, Differ, used_below}
 use Rattle.reader_formed.proofs.Comparisons.{FormedComparisons}
 use Rattle.reader_formed.proofs.State.{SoFar, process_more, init_chosen}
-use Rattle.reader_formed.proofs.Lists.{Good, Keeps, then, same_state, next_keeps, stopped_keeps, fresh, locations_known, list_keeps}
+use Rattle.reader_formed.proofs.Lists.{Good, Keeps, then, next_keeps, fresh, locations_known, list_keeps}
 use Rattle.reader_formed.proofs.Start.{start_good}
 use Rattle.limits.specs.Limits.{largest_text, location_limit, tick_allowed}
 
--- the state after the name of the process, and after that of the start
-abbrev after_process : List ℕ → State → State
-after_process s r =
-    let d = declare s r.status r.names process_slot 0 process_limit in
-    record { status = d.status; names = d.names; text = r.text }
-
-abbrev after_start : List ℕ → State → State
-after_start s r =
-    let u = use_name s r.status r.names first_location location_limit false in
-    record { status = u.status; names = r.names; text = with_init r.text u.number }
-
 module _ (s : List ℕ) where
-  named_kept : (r : State) → Keeps 0 0 s r (after_process s r)
-  named_kept r = record {
-    going = λ g. (declared s r.names process_slot 0 process_limit r.status g).before;
-    good = λ g h. let x = declared s r.names process_slot 0 process_limit r.status g in
-        rw x.stored (process_more 0 s r.names r.text h _ (fresh s _ _ _ _ _ _ x));
-  }
+  process_declared : (p : ℕ) (names : List Name)
+      → IfOk (process_read s p names) (Declared s names process_slot 0 process_limit)
+  unfolding process_read
+  process_declared p names =
+      after (take s p kinds.process) _ (Declared s names process_slot 0 process_limit)
+      (λ a. and_then _ _ (Declared s names process_slot 0 process_limit) (Declared s names process_slot 0 process_limit)
+      (declared s names process_slot 0 process_limit a)
+      (λ d x. after (take s d.end kinds.left_paren) _ (Declared s names process_slot 0 process_limit)
+      (λ b. after (take s b kinds.right_paren) _ (Declared s names process_slot 0 process_limit)
+      (λ c. after (take s c kinds.opens) _ (Declared s names process_slot 0 process_limit)
+      (λ e. record { name = x.name; room = x.room; other = x.other; stored = x.stored })))))
 
   process_kept : (r : State) → Keeps 0 0 s r (process_part s r)
   unfolding process_part
-  process_kept r =
-      then s (next_keeps s r kinds.process) (then s (named_kept _)
-      (then s (next_keeps s _ kinds.left_paren) (then s (next_keeps s _ kinds.right_paren)
-      (next_keeps s _ kinds.opens))))
-
-  start_kept : (r : State) → Keeps 0 1 s r (after_start s r)
-  start_kept r = record {
-    going = λ g. (used s r.names first_location location_limit (omega arith) false r.status g).before;
-    good = λ g h. let u = used s r.names first_location location_limit (omega arith) false r.status g in
-        init_chosen s r.names r.text _ (used_below s r.status _ _ _ _ _ u (locations_known s h)) h;
+  process_kept r = record {
+    good = λ h.
+        and_then _ _ (Declared s r.names process_slot 0 process_limit) (Good 0 s) (process_declared r.place r.names)
+        (λ d x. rw x.stored (process_more 0 s r.names r.text h d.name (fresh s x)));
   }
+
+  init_used : (p : ℕ) (names : List Name)
+      → IfOk (init_read s p names) (Used names first_location location_limit false)
+  unfolding init_read
+  init_used p names =
+      after (take s p kinds.init) _ (Used names first_location location_limit false)
+      (λ a. and_then _ _ (Used names first_location location_limit false) (Used names first_location location_limit false)
+      (used s names first_location location_limit (omega arith) false a)
+      (λ u x. after (take s u.end kinds.semicolon) _ (Used names first_location location_limit false)
+      (λ b. record { allowed = x.allowed; number = x.number; filled = x.filled })))
 
   init_kept : (r : State) → Keeps 0 1 s r (init_part s r)
   unfolding init_part
-  init_kept r = then s (next_keeps s r kinds.init) (then s (start_kept _) (next_keeps s _ kinds.semicolon))
+  init_kept r = record {
+    good = λ h.
+        and_then _ _ (Used r.names first_location location_limit false) (Good 1 s) (init_used r.place r.names)
+        (λ u x. init_chosen s r.names r.text u.number
+        (used_below s r.names first_location location_limit _ u x (locations_known s h)) h);
+  }
 
   end_kept : (r : State) → Keeps 1 1 s r (end_part s r)
   unfolding end_part
-  end_kept r =
-      then s (next_keeps s r kinds.closes) (then s (next_keeps s _ kinds.system)
-      (then s (stopped_keeps s _ _ (λ g. (used s _ process_slot process_limit (omega arith) false _ g).before))
-      (then s (next_keeps s _ kinds.semicolon) (next_keeps s _ kinds.end))))
+  end_kept r = record { good = λ h. after (end_read s r.place r.names) _ (Good 1 s) (λ p. h) }
 
 module _ (period : ℕ) (s : List ℕ) where
   list_kept : {a : ℕ} (word : ℕ) (k : Item) (r : State) → Keeps a a s r (list_part period word k s r)
   unfolding list_part
   list_kept {a} word k r =
-      either (λ (q : State). Keeps a a s r q) (ahead s r.status word)
-      (then s (next_keeps s r word) (list_keeps s period k _))
-      (same_state s)
+      either (λ (q : Result State Fault). Keeps a a s r q) (ahead s r.place word)
+      (then s (next_token s word r) (items period k s) (next_keeps s word r) (list_keeps s period k))
+      (record { good = λ h. h })
 
   channels_kept : (r : State) → Keeps 0 0 s r (channel_part period s r)
   unfolding channel_part
   channels_kept r =
-      either (λ (q : State). Keeps 0 0 s r q) (ahead s r.status kinds.broadcast)
-      (then s (next_keeps s r kinds.broadcast) (then s (next_keeps s _ kinds.chan) (list_keeps s period Channel _)))
-      (same_state s)
+      either (λ (q : Result State Fault). Keeps 0 0 s r q) (ahead s r.place kinds.broadcast)
+      (then s (next_token s kinds.broadcast r >>= next_token s kinds.chan) (items period Channel s)
+      (then s (next_token s kinds.broadcast r) (next_token s kinds.chan) (next_keeps s kinds.broadcast r)
+      (next_keeps s kinds.chan))
+      (list_keeps s period Channel))
+      (record { good = λ h. h })
 
   locations_kept : (r : State) → Keeps 0 0 s r (location_part period s r)
   unfolding location_part
-  locations_kept r = then s (next_keeps s r kinds.state) (list_keeps s period Location _)
+  locations_kept r = then s (next_token s kinds.state r) (items period Location s) (next_keeps s kinds.state r)
+      (list_keeps s period Location)
 
   whole_kept : Keeps 0 1 s start (read_whole period s)
   unfolding read_whole
   whole_kept =
-      then s (channels_kept _) (then s (process_kept s _) (then s (list_kept _ _ _) (then s (locations_kept _)
-      (then s (init_kept s _) (then s (list_kept _ _ _) (end_kept s _))))))
+      then s _ _ (then s _ _ (then s _ _ (then s _ _ (then s _ _ (then s _ _ (channels_kept start) (process_kept s))
+      (list_kept kinds.clock Clock)) locations_kept) (init_kept s)) (list_kept kinds.trans Edge)) (end_kept s)
 
-  whole_good : Going (read_whole period s).status → Good 1 s (read_whole period s)
-  whole_good g = whole_kept.good g (start_good s)
+  whole_good : IfOk (read_whole period s) (Good 1 s)
+  whole_good = whole_kept.good (start_good s)
 
 constraint_formed :
     (clocks : ℕ) (only : Bool) (c : Constraint) → FormedComparisons clocks only c → FormedConstraint clocks c
@@ -164,10 +167,9 @@ promised s names t h =
       };
     }
 
-answered : (s : List ℕ) (st : Status) (t : Text) → (Going st → Promised s t) → IfOk (answer st t) (Promised s)
-unfolding answer
-answered s (status.At p) t h = h tt
-answered s (status.Refused f) t h = tt
+answered : (s : List ℕ) (r : Result State Fault) → IfOk r (Good 1 s) → IfOk (answer r) (Promised s)
+answered s (Ok r) g = promised s r.names r.text g
+answered s (Err f) g = tt
 
 -- what holds of the record of a text that is accepted
 pub of_accepted :
@@ -185,7 +187,7 @@ module _ (period : ℕ) where
       split P (tick_allowed period)
       (λ _. split P (ltb largest_text (length s))
       (λ _. tt)
-      (λ _. answered s _ _ (λ g. promised s _ _ (whole_good period s g))))
+      (λ _. answered s (read_whole period s) (whole_good period s)))
       (λ _. tt)
     where
       P : Result Text Refusal → Type 0

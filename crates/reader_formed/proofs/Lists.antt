@@ -1,33 +1,23 @@
--- Each stage of reading keeps what holds so far: a reader that goes on after it went on before it.
-use Rattle.std.proofs.Common.{sym, leb-false}
-use Rattle.std.proofs.Math.Path.{subst}
-use Rattle.std.proofs.Math.Bool.{Bool}
-use Rattle.std.specs.Prelude.{true, cond, set}
-use mathlib.Core.List.{List}
-use Prim.Native.Nat.{ℕ, zero, suc, ◌+◌, ◌<◌}
-use Rattle.std.proofs.Math.Dec.{leb}
+-- Each part of a text keeps what holds so far.
+use Rattle.std.proofs.Common.{leb-false}
+use Rattle.std.specs.Prelude.{Bool, true, List, ℕ, zero, suc, Result, IfOk, leb}
 use Rattle.reader_parts.specs.Slots.{first_channel, first_clock, first_location}
 use Rattle.reader_tokens.specs.Kinds as kinds
 use Rattle.reader_record.specs.declared.Name.{Name}
 use Rattle.reader_record.specs.declared.Text.{Text}
-use Rattle.reader_parts.specs.declared.Status.{Status}
+use Rattle.reader_parts.specs.declared.Fault.{Fault}
 use Rattle.reader_parts.specs.declared.Declaration.{Declaration}
-use Rattle.reader_parts.specs.Status.{ahead}
-use Rattle.reader_parts.specs.Names.{declare}
-use Rattle.reader_constraints.specs.Constraints.{invariant}
-use Rattle.reader_constraints.specs.declared.ConstraintRead.{ConstraintRead}
-use Rattle.reader_edges.specs.Edges.{edge_next}
-use Rattle.reader_edges.specs.declared.EdgeRead.{EdgeRead}
+use Rattle.reader_parts.specs.Stages.{◌>>=◌, take, ahead}
+use Rattle.reader_parts.specs.Binds.{and_then, after}
 use Rattle.reader_lists.specs.Lists.{Item}
 use Rattle.reader_lists.specs.Lists.Item.{Channel, Clock, Location, Edge}
 use Rattle.reader_lists.specs.State.{State}
-use Rattle.reader_lists.specs.State.{next_token, with_location}
-use Rattle.reader_lists.specs.Lists.{stopped, channel_item, clock_item, location_item, edge_item, one_item, limit, items_from, items}
-use Rattle.reader_formed.proofs.Cases.{split, either}
-use Rattle.reader_formed.proofs.Going.{Going, take_going}
+use Rattle.reader_lists.specs.State.{next_token}
+use Rattle.reader_lists.specs.Lists.{channel_item, clock_item, location_item, edge_item, one_item, limit, items_from, items}
+use Rattle.reader_formed.proofs.Cases.{either}
 use Rattle.reader_formed.proofs.Declared.{Declared, declared}
 use Rattle.reader_formed.proofs.Slots.{Known}
-use Rattle.reader_formed.proofs.Comparisons.{FormedComparisons, optional_read}
+use Rattle.reader_formed.proofs.Comparisons.{IsConstraintRead, optional_read}
 use Rattle.reader_formed.proofs.Edges.{IsEdgeRead, edge_read}
 use Rattle.reader_formed.proofs.State.{SoFar, Fresh, channel_more, clock_more, clocks_stay, location_more, edge_more}
 use Rattle.limits.specs.Limits.{channel_limit, clock_limit, location_limit, edge_limit}
@@ -36,26 +26,18 @@ use Rattle.limits.specs.Limits.{channel_limit, clock_limit, location_limit, edge
 abbrev pub Good : ℕ → List ℕ → State → Type 0
 Good chosen s r = SoFar chosen s r.names r.text
 
--- where the reader goes on at q it went on at r, and what held at r holds at q
-pub record Keeps (before after : ℕ) (s : List ℕ) (r q : State) : Type 0 where
-  pub going : Going q.status → Going r.status
-  pub good : Going q.status → Good before s r → Good after s q
+-- what held at r holds of what is read from there
+pub record Keeps (before after : ℕ) (s : List ℕ) (r : State) (q : Result State Fault) : Type 0 where
+  pub good : Good before s r → IfOk q (Good after s)
 
 module _ (s : List ℕ) where
-  pub then : {a b c : ℕ} {r q p : State} → Keeps a b s r q → Keeps b c s q p → Keeps a c s r p
-  then x y = record { going = λ g. x.going (y.going g); good = λ g h. y.good g (x.good (y.going g) h) }
+  pub then : {a b c : ℕ} {r : State} (q : Result State Fault) (f : State → Result State Fault)
+      → Keeps a b s r q → ((x : State) → Keeps b c s x (f x)) → Keeps a c s r (q >>= f)
+  then {b = b} {c = c} q f x y = record { good = λ h. and_then q f (Good b s) (Good c s) (x.good h) (λ p. (y p).good) }
 
-  pub same_state : {a : ℕ} {r : State} → Keeps a a s r r
-  same_state = record { going = λ g. g; good = λ g h. h }
-
-  pub next_keeps : {a : ℕ} (r : State) (k : ℕ) → Keeps a a s r (next_token s r k)
+  pub next_keeps : {a : ℕ} (k : ℕ) (r : State) → Keeps a a s r (next_token s k r)
   unfolding next_token
-  next_keeps r k = record { going = λ g. take_going s r.status k g; good = λ g h. h }
-
-  -- a state that differs in its status alone
-  pub stopped_keeps :
-      {a : ℕ} (r : State) (st : Status) → (Going st → Going r.status) → Keeps a a s r (stopped r st)
-  stopped_keeps r st f = record { going = f; good = λ g h. h }
+  next_keeps {a} k r = record { good = λ h. after (take s r.place k) _ (Good a s) (λ p. h) }
 
   pub clocks_known :
       {a : ℕ} {names : List Name} {t : Text} → SoFar a s names t →
@@ -72,111 +54,57 @@ module _ (s : List ℕ) where
       Known s names first_channel channel_limit t.channel_count
   channels_known h = record { size = h.named.size; named = _; kind = h.named.channels }
 
-  pub fresh :
-      (st : Status) (names : List Name) (first count limit : ℕ) (d : Declaration) →
-      Declared s st names first count limit d → Fresh s names d.name
-  fresh st names first count limit d x = record { within = x.name; other = x.other }
-
-  -- the next name, as it is declared
-  module _ (r : State) (first count limit : ℕ) where
-    abbrev name : Declaration
-    name = declare s r.status r.names first count limit
-
-    abbrev Named : Type 0
-    Named = Declared s r.status r.names first count limit name
-
-    named : Going name.status → Named
-    named g = declared s r.names first count limit r.status g
+  pub fresh : {names : List Name} {first count limit : ℕ} {d : Declaration} → Declared s names first count limit d
+      → Fresh s names d.name
+  fresh x = record { within = x.name; other = x.other }
 
   module _ {a : ℕ} (r : State) where
-    -- an item that is over its limit stops the reader
-    unless_full :
-        (full : Bool) (st : Status) {q : State} → (Going st → Going r.status) → Keeps a a s r q →
-        Keeps a a s r (cond full (stopped r st) q)
-    unless_full full st f k = either (λ (q : State). Keeps a a s r q) full (stopped_keeps r st f) k
-
-    -- a name that is declared, and an item of the record with it
-    name_keeps :
-        (first count limit : ℕ) (t : Text) →
-        (Good a s r → Fresh s r.names (name r first count limit).name → count < limit →
-        SoFar a s (set r.names (first + count) (name r first count limit).name) t) →
-        Keeps a a s r (record {
-          status = (name r first count limit).status;
-          names = (name r first count limit).names;
-          text = t;
-        })
-    name_keeps first count limit t more = record {
-      going = λ g. (named r first count limit g).before;
-      good = λ g h. let x = named r first count limit g in rw x.stored (more h (fresh _ _ _ _ _ _ x) x.room);
-    }
-
     channel_keeps : Keeps a a s r (channel_item s r)
     unfolding channel_item
     channel_keeps =
         let n : ℕ = r.text.channel_count in
-        unless_full (leb channel_limit n) _ (λ g. (named r first_channel n channel_limit g).before)
-        (name_keeps first_channel n channel_limit _ (λ h f l. channel_more a s r.names r.text h _ f l))
+        record {
+          good = λ h. and_then _ _ (Declared s r.names first_channel n channel_limit) (Good a s)
+              (declared s r.names first_channel n channel_limit r.place)
+              (λ d x. rw x.stored (channel_more a s r.names r.text h d.name (fresh x) x.room));
+        }
 
     clock_keeps : Keeps a a s r (clock_item s r)
     unfolding clock_item
     clock_keeps =
         let n : ℕ = r.text.clock_count in
-        unless_full (leb clock_limit n) _ (λ g. (named r first_clock n clock_limit g).before)
-        (name_keeps first_clock n clock_limit _ (λ h f l. clock_more a s r.names r.text h _ f l))
+        record {
+          good = λ h. and_then _ _ (Declared s r.names first_clock n clock_limit) (Good a s)
+              (declared s r.names first_clock n clock_limit r.place)
+              (λ d x. rw x.stored (clock_more a s r.names r.text h d.name (fresh x) x.room));
+        }
 
     location_keeps : (period : ℕ) → Keeps a a s r (location_item period s r)
     unfolding location_item
     location_keeps period =
-        unless_full (leb location_limit n) _ (λ g. (named r first_location n location_limit g).before) (record {
-          going = λ g. (place g).before;
-          good = λ g h. let x = place g in
-              subst (λ (m : List Name). SoFar a s m u) (sym x.stored)
-              (location_more a s r.names r.text h _ (fresh _ _ _ _ _ _ x) _ (formed g h) x.room);
-        })
-      where
-        n : ℕ
-        n = r.text.location_count
-
-        d : Declaration
-        d = name r first_location n location_limit
-
-        i : ConstraintRead
-        i = invariant period s d.status d.names
-
-        u : Text
-        u = with_location r.text d.name i.constraint
-
-        place : Going i.status → Named r first_location n location_limit
-        place g = named r first_location n location_limit
-            (optional_read period kinds.opens true kinds.closes s d.status d.names g).before
-
-        formed : Going i.status → Good a s r → FormedComparisons r.text.clock_count true i.constraint
-        formed g h =
-            let x = place g in
-            (optional_read period kinds.opens true kinds.closes s d.status d.names g).formed
-            r.text.clock_count
-            (rw x.stored (clocks_stay a s r.names r.text h _ (fresh _ _ _ _ _ _ x) x.room))
+        let n : ℕ = r.text.location_count in
+        record {
+          good = λ h. and_then _ _ (Declared s r.names first_location n location_limit) (Good a s)
+              (declared s r.names first_location n location_limit r.place)
+              (λ d x. and_then _ _ (IsConstraintRead period s d.names true) (Good a s)
+              (optional_read period kinds.opens true kinds.closes s d.end d.names)
+              (λ i f.
+              let known : Known s d.names first_clock clock_limit r.text.clock_count =
+              rw x.stored (clocks_stay a s r.names r.text h d.name (fresh x) x.room) in
+              rw x.stored (location_more a s r.names r.text h d.name (fresh x) i.constraint (f r.text.clock_count known) x.room)));
+        }
 
     edge_keeps : (period : ℕ) → Keeps a a s r (edge_item period s r)
     unfolding edge_item
     edge_keeps period =
-        split (λ (q : State). Keeps a a s r q) full (λ _. stopped_keeps r _ (λ g. (new g).before))
-        (λ room. record {
-          going = λ g. (new g).before;
-          good = λ g h. let x = new g in
-              edge_more a s r.names r.text h _ _ _ x.label (x.known _ (channels_known h))
+        let full : Bool = leb edge_limit r.text.edge_count in
+        record {
+          good = λ h. and_then _ _ (IsEdgeRead s r.names r.text.channels full) (Good a s)
+              (edge_read period s r.place r.names r.text.channels full)
+              (λ e x. edge_more a s r.names r.text h e.edge e.channel e.input x.label (x.known _ (channels_known h))
               (x.guard _ (clocks_known h)) (x.source _ (locations_known h)) (x.target _ (locations_known h))
-              (x.assigned _ (clocks_known h)) x.right (leb-false edge_limit r.text.edge_count room);
-        })
-      where
-        full : Bool
-        full = leb edge_limit r.text.edge_count
-
-        e : EdgeRead
-        e = edge_next period s r.status r.names r.text.channels full
-
-        new : Going e.status → IsEdgeRead s r.status r.names r.text.channels e
-        new g = edge_read period s r.status r.names r.text.channels full g
+              (x.assigned _ (clocks_known h)) x.right (leb-false edge_limit r.text.edge_count x.room));
+        }
 
   module _ (period : ℕ) {a : ℕ} where
     item_keeps : (k : Item) (r : State) → Keeps a a s r (one_item period k s r)
@@ -189,9 +117,10 @@ module _ (s : List ℕ) where
     unfolding items_from
     items_keep zero k r = item_keeps k r
     items_keep (suc room) k r =
-        either (λ (q : State). Keeps a a s r q) (ahead s (one_item period k s r).status kinds.comma)
-        (then (item_keeps k r) (then (next_keeps _ kinds.comma) (items_keep room k _)))
-        (then (item_keeps k r) (next_keeps _ kinds.semicolon))
+        then (one_item period k s r) _ (item_keeps k r)
+        (λ q. either (λ (p : Result State Fault). Keeps a a s q p) (ahead s q.place kinds.comma)
+        (then (next_token s kinds.comma q) (items_from period room k s) (next_keeps kinds.comma q) (items_keep room k))
+        (next_keeps kinds.semicolon q))
 
     pub list_keeps : (k : Item) (r : State) → Keeps a a s r (items period k s r)
     unfolding items

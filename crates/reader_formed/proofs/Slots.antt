@@ -9,7 +9,6 @@ use Rattle.reader_record.specs.declared.Name.{Name}
 use Rattle.reader_record.specs.Record.{no_name}
 use Rattle.reader_formed.specs.Promise.{Within, Unlike}
 use Rattle.reader_formed.proofs.Cases.{when_equal, stored}
-use Rattle.reader_parts.specs.declared.Status.{Status}
 use Rattle.reader_parts.specs.declared.Use.{Use}
 use Rattle.reader_formed.proofs.Declared.{slot, Used}
 
@@ -38,9 +37,9 @@ pub record Known (s : List ℕ) (names : List Name) (first limit count : ℕ) : 
 
 -- a name that is used is one of those declared
 pub used_below :
-    (s : List ℕ) (st : Status) (names : List Name) (first limit count : ℕ) (u : Use) → Used s st names first limit u
+    (s : List ℕ) (names : List Name) (first limit count : ℕ) {over : Bool} (u : Use) → Used names first limit over u
     → Known s names first limit count → u.number < count
-used_below s st names first limit count u h k =
+used_below s names first limit count u h k =
     below_count s names first limit count k.named k.kind u.number h.number (h.filled k.size)
 
 -- one name more of this kind, at its end

@@ -1,6 +1,6 @@
--- What the reader has read: how far it has come, the declared names by their slots, and the record so far, to which
--- items are added in their order (SPECIFICATION 4.4, 5.1).
-use Rattle.std.specs.Prelude.{Bool, cond, List, ℕ, ◌+◌, get_or, set, replicate}
+-- What the reader has read: the declared names by their slots, the record so far, to which items are added in their
+-- order (SPECIFICATION 4.4, 5.1), and the place behind it. A part of the text leads from one to the next, or is refused.
+use Rattle.std.specs.Prelude.{Bool, cond, List, ℕ, ◌+◌, Result, Ok, get_or, set, replicate}
 use Rattle.reader_record.specs.Record.{no_name, no_channel}
 use Rattle.reader_record.specs.declared.Name.{Name}
 use Rattle.reader_record.specs.declared.Channel.{Channel}
@@ -10,16 +10,20 @@ use Rattle.reader_record.specs.declared.Label.TheVariants as label
 use Rattle.reader_record.specs.declared.Constraint.{Constraint}
 use Rattle.reader_record.specs.declared.Edge.{Edge}
 use Rattle.reader_record.specs.declared.Text.{Text}
-use Rattle.reader_parts.specs.declared.Status.{Status}
-use Rattle.reader_parts.specs.Status.{take}
+use Rattle.reader_parts.specs.declared.Fault.{Fault}
+use Rattle.reader_parts.specs.Stages.{◌>>=◌, take}
 use Rattle.reader_constraints.specs.Constraints.{blank_constraint}
 use Rattle.reader_edges.specs.Assigns.{no_assignments}
 use Rattle.limits.specs.Limits.{channel_limit, clock_limit, location_limit, edge_limit}
 
 pub record State : Type 0 where
-  pub status : Status
   pub names : List Name
   pub text : Text
+  pub place : ℕ
+
+-- the three as one
+abbrev pub state_of : List Name → Text → ℕ → State
+state_of names text p = record { names = names; text = text; place = p }
 
 -- no edge, and as long as the code's arrays (the `no_edge` of reader_record stands past the end of a list, where an
 -- array inside is empty)
@@ -32,7 +36,7 @@ blank_edge = record {
   assignments = no_assignments;
 }
 
--- a record of which nothing is read; also what stands beside a refusal
+-- a record of which nothing is read
 unfoldable pub no_text : Text
 no_text = record {
   channels = replicate channel_limit no_channel;
@@ -47,8 +51,8 @@ no_text = record {
 }
 
 -- the next token, which has to be of the kind k
-unfoldable pub next_token : List ℕ → State → ℕ → State
-next_token s r k = record { status = take s r.status k; names = r.names; text = r.text }
+unfoldable pub next_token : List ℕ → ℕ → State → Result State Fault
+next_token s k r = take s r.place k >>= λ p. Ok (state_of r.names r.text p)
 
 -- one channel more, which no edge names yet (SPECIFICATION 5.1)
 unfoldable pub with_channel : Text → Name → Text

@@ -1,16 +1,16 @@
 // Reads the lists of a contract text: channels, clocks, locations and edges (SPECIFICATION 3.1).
 #![tactic(auto)]
 
-ghost use Rattle.std.specs.Prelude.{◌≡◌, true, false, ◌+◌, ◌≤◌, ◌<◌, length};
+ghost use Rattle.std.specs.Prelude.{◌≡◌, ◌≤◌, ◌<◌, length};
 ghost use Rattle.reader_lists.specs.State.{blank_edge, no_text, direction_by, marked};
-ghost use Rattle.reader_lists.specs.Lists.{Item, limit, items};
+ghost use Rattle.reader_lists.specs.Lists.{Item, limit, one_item, items};
 ghost use Rattle.reader_lists.specs.Turns.{item, first_slot, count, unused, after_item};
-ghost use Rattle.reader_lists.specs.Heads.{whole, no_edges, head_read, before_edges, ReadsHead, ReadsEdges};
+ghost use Rattle.reader_lists.specs.Heads.{whole, no_edges, before_edges, in_place, ReadsHead, ReadsEdges};
 ghost use Rattle.limits.specs.Limits.{TickLength, largest_text, channel_limit};
 
 use limits::{CHANNEL_LIMIT, CLOCK_LIMIT, EDGE_LIMIT, LOCATION_LIMIT};
-use reader_parts::{FIRST_CHANNEL, FIRST_CLOCK, FIRST_LOCATION, NAME_SLOTS, Status};
-use reader_record::{Channel, Constraint, Direction, Edge, Label, Location, Name, Text};
+use reader_parts::{FIRST_CHANNEL, FIRST_CLOCK, FIRST_LOCATION, Fault, NAME_SLOTS};
+use reader_record::{Channel, Direction, Edge, Label, Location, Name, Text};
 
 // The kinds of item that declare a name.
 #[derive(Clone, Copy)]
@@ -20,11 +20,11 @@ pub enum Named {
     Location,
 }
 
-// How far the reader has come past an item and what stands after it, and whether another item comes.
+// Whether another item comes after the one that is read, and the place behind the comma or the `;`.
 #[derive(Clone, Copy)]
 struct Turn {
-    status: Status,
     more: bool,
+    end: usize,
 }
 
 // The record's head: what stands before its starting location and its edges. The head and the edges are read apart, so
@@ -39,67 +39,58 @@ pub struct Head {
     pub location_count: usize,
 }
 
-// How far the reader has come in the head, the declared names by their slots, and the head so far.
+// The declared names by their slots, the head so far, and the place behind it.
 #[derive(Clone, Copy)]
 pub struct HeadRead {
-    pub status: Status,
     pub names: [Name; NAME_SLOTS],
     pub head: Head,
+    pub end: usize,
 }
 
-// How far the reader has come in the edges, the channels with the directions that the edges say, and the edges so far.
+// The channels with the directions that the edges say, the edges so far, and the place behind them.
 #[derive(Clone, Copy)]
 pub struct EdgesRead {
-    pub status: Status,
     pub channels: [Channel; CHANNEL_LIMIT],
     pub edges: [Edge; EDGE_LIMIT],
     pub count: usize,
+    pub end: usize,
 }
 
+#[tactic(auto, unfolding(crate::specs::State::blank_edge))]
 fn blank_edge() -> Edge
     ensures { result ≡ blank_edge }
 {
-    let guard = reader_constraints::blank_constraint();
-    let label = Label::Input(0);
-    let assignments = reader_edges::no_assignments();
     Edge {
         source: 0,
         target: 0,
-        guard: guard,
-        label: label,
-        assignments: assignments,
+        guard: reader_constraints::blank_constraint(),
+        label: Label::Input(0),
+        assignments: reader_edges::no_assignments(),
     }
 }
 
 // The head of a record of which nothing is read.
+#[tactic(auto, unfolding(crate::specs::State::no_text, crate::specs::Heads::no_edges))]
 pub fn no_head() -> Head
     ensures { whole result 0 no_edges 0 ≡ no_text }
 {
     let name = Name { place: 0, len: 0 };
-    let direction = Direction::Unused;
-    let channel = Channel {
-        name: name,
-        direction: direction,
-    };
-    let channels = [channel; CHANNEL_LIMIT];
-    let clocks = [name; CLOCK_LIMIT];
-    let invariant = reader_constraints::blank_constraint();
     let location = Location {
-        name: name,
-        invariant: invariant,
+        name,
+        invariant: reader_constraints::blank_constraint(),
     };
-    let locations = [location; LOCATION_LIMIT];
     Head {
-        channels: channels,
+        channels: [unused(name); CHANNEL_LIMIT],
         channel_count: 0,
-        clocks: clocks,
+        clocks: [name; CLOCK_LIMIT],
         clock_count: 0,
-        locations: locations,
+        locations: [location; LOCATION_LIMIT],
         location_count: 0,
     }
 }
 
 // A record of which nothing is read.
+#[tactic(auto, unfolding(crate::specs::State::no_text, crate::specs::Heads::no_edges))]
 pub fn no_text() -> Text
     ensures { result ≡ no_text }
 {
@@ -107,58 +98,54 @@ pub fn no_text() -> Text
     let channels = h.channels;
     let clocks = h.clocks;
     let locations = h.locations;
-    let edge = blank_edge();
-    let edges = [edge; EDGE_LIMIT];
     Text {
-        channels: channels,
+        channels,
         channel_count: h.channel_count,
-        clocks: clocks,
+        clocks,
         clock_count: h.clock_count,
-        locations: locations,
+        locations,
         location_count: h.location_count,
         init: 0,
-        edges: edges,
+        edges: [blank_edge(); EDGE_LIMIT],
         edge_count: 0,
     }
 }
 
-// No edges, where the reader has come to st and the channels are given.
-pub fn no_edges(st: Status, channels: [Channel; CHANNEL_LIMIT]) -> EdgesRead
-    ensures { result ≡ before_edges st channels }
+// No edges, where the reader has come to the place p and the channels are given.
+#[tactic(auto, unfolding(crate::specs::Heads::no_edges))]
+pub fn no_edges(p: usize, channels: [Channel; CHANNEL_LIMIT]) -> EdgesRead
+    ensures { result ≡ before_edges p channels }
 {
-    let edge = blank_edge();
-    let edges = [edge; EDGE_LIMIT];
     EdgesRead {
-        status: st,
-        channels: channels,
-        edges: edges,
+        channels,
+        edges: [blank_edge(); EDGE_LIMIT],
         count: 0,
+        end: p,
     }
 }
 
+#[tactic(auto, unfolding(crate::specs::State::direction_by))]
 fn direction_by(input: bool) -> Direction
     ensures { result ≡ direction_by input }
 {
     if input {
-        return Direction::Input;
+        Direction::Input
+    } else {
+        Direction::Output
     }
-    Direction::Output
 }
 
 // The channel k has the direction that its mark says.
+#[tactic(auto, unfolding(crate::specs::State::marked))]
 fn marked(channels: [Channel; CHANNEL_LIMIT], k: usize, input: bool) -> [Channel; CHANNEL_LIMIT]
     requires { k < channel_limit }
     ensures { result ≡ marked channels k input }
 {
     let mut all = channels;
-    let c = all[k];
-    let name = c.name;
-    let direction = direction_by(input);
-    let channel = Channel {
-        name: name,
-        direction: direction,
+    all[k] = Channel {
+        name: all[k].name,
+        direction: direction_by(input),
     };
-    all[k] = channel;
     all
 }
 
@@ -166,10 +153,9 @@ fn marked(channels: [Channel; CHANNEL_LIMIT], k: usize, input: bool) -> [Channel
 fn unused(name: Name) -> Channel
     ensures { result ≡ unused name }
 {
-    let direction = Direction::Unused;
     Channel {
-        name: name,
-        direction: direction,
+        name,
+        direction: Direction::Unused,
     }
 }
 
@@ -206,125 +192,118 @@ fn count(k: Named, channels: usize, clocks: usize, locations: usize) -> usize
     }
 }
 
-// What stands after an item, where there is room for so many more: a comma, or the `;` of the list.
-fn after_item(s: &[u8], st: Status, room: usize) -> Turn
-    ensures { result ≡ after_item s.now st room }
+// What stands after an item: a comma, or the `;` of the list.
+#[tactic(auto, unfolding(crate::specs::Turns::after_item))]
+fn after_item(s: &[u8], p: usize) -> Result<Turn, Fault>
+    ensures { result ≡ after_item s.now p }
 {
-    if room == 0 {
-        return Turn {
-            status: st,
-            more: false,
-        };
-    }
-    if reader_parts::ahead(s, st, reader_tokens::COMMA) {
-        let on = reader_parts::take(s, st, reader_tokens::COMMA);
-        return Turn {
-            status: on,
-            more: true,
-        };
-    }
-    let end = reader_parts::take(s, st, reader_tokens::SEMICOLON);
-    Turn {
-        status: end,
-        more: false,
-    }
+    let more = reader_parts::ahead(s, p, reader_tokens::COMMA);
+    let sign = if more {
+        reader_tokens::COMMA
+    } else {
+        reader_tokens::SEMICOLON
+    };
+    let end = reader_parts::take(s, p, sign)?;
+    Ok(Turn { more, end })
 }
 
-// What the reader has read in the head, from its three parts.
-fn head_read(st: Status, names: [Name; NAME_SLOTS], head: Head) -> HeadRead
-    ensures { result ≡ head_read st names head }
-{
-    HeadRead {
-        status: st,
-        names: names,
-        head: head,
-    }
-}
-
-// The channels, clocks or locations, joined by commas, and `;`, from `start` on, where the words before them are read:
-// the status in r is not used. The head is written in place.
-pub fn named_items(period: usize, s: &[u8], start: Status, r: HeadRead, k: Named) -> HeadRead
+// One item more of the kind k, written in place.
+fn named_item(period: usize, s: &[u8], r: &mut HeadRead, k: Named) -> Result<(), Fault>
     requires { TickLength period × (length s.now ≤ largest_text) }
-    ensures { ReadsHead (items period (item k) s.now) (head_read start r.names r.head) result }
+    ensures { ReadsHead (one_item period (item k) s.now) r.old (in_place result r.new) }
 {
-    let mut st = start;
-    let mut names = r.names;
-    let mut head = r.head;
-    let mut room = limit(k);
-    loop {
-        let n = count(k, head.channel_count, head.clock_count, head.location_count);
-        let d = reader_parts::declare(s, st, names, first_slot(k), n, limit(k));
-        st = d.status;
-        if n < limit(k) {
-            names = d.names;
-            let name = d.name;
-            match k {
-                Named::Channel => {
-                    let channel = unused(name);
-                    head.channels[n] = channel;
-                    head.channel_count = n + 1;
-                }
-                Named::Clock => {
-                    head.clocks[n] = name;
-                    head.clock_count = n + 1;
-                }
-                Named::Location => {
-                    let i = reader_constraints::invariant(period, s, st, names);
-                    st = i.status;
-                    let invariant = i.constraint;
-                    let location = Location { name, invariant };
-                    head.locations[n] = location;
-                    head.location_count = n + 1;
-                }
-            }
+    let n = count(
+        k,
+        r.head.channel_count,
+        r.head.clock_count,
+        r.head.location_count,
+    );
+    let d = reader_parts::declare(s, r.end, r.names, first_slot(k), n, limit(k))?;
+    let names = d.names;
+    r.names = names;
+    r.end = d.end;
+    match k {
+        Named::Channel => {
+            r.head.channels[n] = unused(d.name);
+            r.head.channel_count = n + 1;
         }
-        let t = after_item(s, st, room);
-        st = t.status;
-        if !t.more {
-            return head_read(st, names, head);
+        Named::Clock => {
+            r.head.clocks[n] = d.name;
+            r.head.clock_count = n + 1;
         }
-        room -= 1;
+        Named::Location => {
+            let i = reader_constraints::invariant(period, s, d.end, names)?;
+            r.head.locations[n] = Location {
+                name: d.name,
+                invariant: i.constraint,
+            };
+            r.head.location_count = n + 1;
+            r.end = i.end;
+        }
     }
+    Ok(())
 }
 
-// The edges, joined by commas, and `;`. The channels and the edges are written in place.
+// The channels, clocks or locations, joined by commas, and `;`, where the words before them are read. One item at most
+// comes after those that there is room for, and that one is refused.
+pub fn named_items(period: usize, s: &[u8], r: HeadRead, k: Named) -> Result<HeadRead, Fault>
+    requires { TickLength period × (length s.now ≤ largest_text) }
+    ensures { ReadsHead (items period (item k) s.now) r result }
+{
+    let mut q = r;
+    for _ in 0..limit(k) {
+        named_item(period, s, &mut q, k)?;
+        let t = after_item(s, q.end)?;
+        q.end = t.end;
+        if !t.more {
+            return Ok(q);
+        }
+    }
+    named_item(period, s, &mut q, k)?;
+    Ok(q)
+}
+
+// One edge more, written in place with the direction of its channel.
+fn edge_item(
+    period: usize,
+    s: &[u8],
+    names: [Name; NAME_SLOTS],
+    r: &mut EdgesRead,
+) -> Result<(), Fault>
+    requires { TickLength period × (length s.now ≤ largest_text) }
+    ensures { ReadsEdges (one_item period Item.Edge s.now) names r.old (in_place result r.new) }
+{
+    let n = r.count;
+    let full = EDGE_LIMIT <= n;
+    let e = reader_edges::edge_next(period, s, r.end, names, r.channels, full)?;
+    let channels = marked(r.channels, e.channel, e.input);
+    r.channels = channels;
+    r.edges[n] = e.edge;
+    r.count = n + 1;
+    r.end = e.end;
+    Ok(())
+}
+
+// The edges, joined by commas, and `;`, from the place p on.
 pub fn edges(
     period: usize,
     s: &[u8],
-    start: Status,
+    p: usize,
     names: [Name; NAME_SLOTS],
-    given: [Channel; CHANNEL_LIMIT],
-) -> EdgesRead
+    channels: [Channel; CHANNEL_LIMIT],
+) -> Result<EdgesRead, Fault>
     requires { TickLength period × (length s.now ≤ largest_text) }
-    ensures { ReadsEdges (items period Item.Edge s.now) names (before_edges start given) result }
+    ensures { ReadsEdges (items period Item.Edge s.now) names (before_edges p channels) result }
 {
-    let mut st = start;
-    let mut channels = given;
-    let none = blank_edge();
-    let mut edges = [none; EDGE_LIMIT];
-    let mut n: usize = 0;
-    let mut room = EDGE_LIMIT;
-    loop {
-        let full = EDGE_LIMIT <= n;
-        let e = reader_edges::edge_next(period, s, st, names, channels, full);
-        st = e.status;
-        if !full {
-            let edge = e.edge;
-            let now = marked(channels, e.channel, e.input);
-            channels = now;
-            edges[n] = edge;
-            n += 1;
-        }
-        let t = after_item(s, st, room);
-        st = t.status;
+    let mut q = no_edges(p, channels);
+    for _ in 0..EDGE_LIMIT {
+        edge_item(period, s, names, &mut q)?;
+        let t = after_item(s, q.end)?;
+        q.end = t.end;
         if !t.more {
-            return EdgesRead {
-                status: st,
-                channels,
-                edges,
-                count: n,
-            };
+            return Ok(q);
         }
-        room -= 1;
     }
+    edge_item(period, s, names, &mut q)?;
+    Ok(q)
 }

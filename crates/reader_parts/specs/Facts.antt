@@ -1,34 +1,72 @@
--- A name that is used has a number below the limit of its kind.
-use Rattle.std.specs.Prelude.{◌≡◌, Bool, List, ℕ, ◌+◌, ◌<◌}
-use Rattle.std.proofs.Math.Path.{refl}
-use Rattle.std.proofs.Math.Bool.{true, false}
-use Rattle.std.proofs.Common.{arith}
+-- A name that is used has a number below the limit of its kind, and one that is declared takes a number below it.
+use Rattle.std.specs.Prelude.{◌≡◌, Bool, true, false, List, ℕ, ◌+◌, ◌<◌, Result, Ok, Err, IfOk}
+use Rattle.std.proofs.Common.{refl, arith}
 use Rattle.std.proofs.Math.Dec.{leb, ltb}
-use borrow.Author.Tests.{leb-true, ltb-true}
+use borrow.Author.Tests.{leb-false, ltb-false}
 use Rattle.reader_record.specs.declared.Name.{Name}
-use Rattle.reader_parts.specs.declared.Status.{Status}
-use Rattle.reader_parts.specs.declared.Status.TheVariants.{At, Refused}
-use Rattle.reader_parts.specs.declared.Use.{Use}
-use Rattle.reader_parts.specs.Status.{name_next}
-use Rattle.reader_parts.specs.Names.{slot_of, use_of, use_name}
+use Rattle.reader_parts.specs.declared.Fault.{Fault}
+use Rattle.reader_parts.specs.declared.NameRead.{NameRead}
+use Rattle.reader_parts.specs.declared.Declaration.{Declaration}
+use Rattle.reader_parts.specs.Stages.{◌>>=◌, name_next}
+use Rattle.reader_parts.specs.Names.{slot_of, declare_name, declare, use_of, use_name}
+use Rattle.reader_parts.specs.Slots.{name_slots}
 
-module _ (s : List ℕ) (names : List Name) (first limit : ℕ) (over : Bool) (h : 0 < limit) where
-  small_of : (n : Name) (st : Status) → (use_of s names first limit over n st).number < limit
+module _ (s : List ℕ) (names : List Name) (first limit : ℕ) (over : Bool) where
+  small_of : (r : NameRead) → IfOk (use_of s names first limit over r) (λ u. u.number < limit)
   unfolding use_of
-  small_of n (Refused f) = h
-  small_of n (At e) = by (leb first (slot_of s names n)) refl (ltb (slot_of s names n) (first + limit)) refl over refl
+  small_of r = by (ltb (slot_of s names r.name) first) refl (leb (first + limit) (slot_of s names r.name)) refl over refl
     where
-      by : (a : Bool) → leb first (slot_of s names n) ≡ a → (b : Bool) → ltb (slot_of s names n) (first + limit) ≡ b
-          → (o : Bool) → over ≡ o → (use_of s names first limit over n (At e)).number < limit
-      by false p b q o r = rw p h
-      by true p false q o r = rw (p, q) h
-      by true p true q true r = rw (p, q, r) h
-      by true p true q false r = rw (p, q, r) (omega
-          (arith, leb-true first (slot_of s names n) p, ltb-true (slot_of s names n) (first + limit) q))
+      by : (a : Bool) → ltb (slot_of s names r.name) first ≡ a → (b : Bool) → leb (first + limit) (slot_of s names r.name) ≡ b
+          → (o : Bool) → over ≡ o → IfOk (use_of s names first limit over r) (λ u. u.number < limit)
+      by true p b q o t = rw p tt
+      by false p true q o t = rw (p, q) tt
+      by false p false q true t = rw (p, q, t) tt
+      by false p false q false t = rw (p, q, t) (omega
+          (arith, ltb-false (slot_of s names r.name) first p, leb-false (first + limit) (slot_of s names r.name) q))
 
-  pub use_small : (st : Status) → (use_name s st names first limit over).number < limit
+  pub use_small : (p : ℕ) → IfOk (use_name s p names first limit over) (λ u. u.number < limit)
   unfolding use_name
-  use_small st = small_of (name_next s st).name (name_next s st).status
+  use_small p = by (name_next s p)
+    where
+      by : (a : Result NameRead Fault) → IfOk (a >>= use_of s names first limit over) (λ u. u.number < limit)
+      by (Ok r) = small_of r
+      by (Err e) = tt
 
-  pub used_small : (st : Status) (u : Use) → u ≡ use_name s st names first limit over → u.number < limit
-  used_small st u e = rw e (use_small st)
+  not_over_of : (r : NameRead) → IfOk (use_of s names first limit over r) (λ _. over ≡ false)
+  unfolding use_of
+  not_over_of r = by (ltb (slot_of s names r.name) first) refl (leb (first + limit) (slot_of s names r.name)) refl over refl
+    where
+      by : (a : Bool) → ltb (slot_of s names r.name) first ≡ a → (b : Bool) → leb (first + limit) (slot_of s names r.name) ≡ b
+          → (o : Bool) → over ≡ o → IfOk (use_of s names first limit over r) (λ _. over ≡ false)
+      by true p b q o t = rw p tt
+      by false p true q o t = rw (p, q) tt
+      by false p false q true t = rw (p, q, t) tt
+      by false p false q false t = rw (p, q, t) refl
+
+  -- no name is used where its item is one too many
+  pub use_not_over : (p : ℕ) → IfOk (use_name s p names first limit over) (λ _. over ≡ false)
+  unfolding use_name
+  use_not_over p = by (name_next s p)
+    where
+      by : (a : Result NameRead Fault) → IfOk (a >>= use_of s names first limit over) (λ _. over ≡ false)
+      by (Ok r) = not_over_of r
+      by (Err e) = tt
+
+module _ (s : List ℕ) (names : List Name) (first number limit : ℕ) where
+  room_of : (r : NameRead) → IfOk (declare_name s names first number limit r) (λ _. number < limit)
+  unfolding declare_name
+  room_of r = by (ltb (slot_of s names r.name) name_slots) refl (leb limit number) refl
+    where
+      by : (a : Bool) → ltb (slot_of s names r.name) name_slots ≡ a → (b : Bool) → leb limit number ≡ b
+          → IfOk (declare_name s names first number limit r) (λ _. number < limit)
+      by true p b q = rw p tt
+      by false p true q = rw (p, q) tt
+      by false p false q = rw (p, q) (omega (arith, leb-false limit number q))
+
+  pub declare_room : (p : ℕ) → IfOk (declare s p names first number limit) (λ _. number < limit)
+  unfolding declare
+  declare_room p = by (name_next s p)
+    where
+      by : (a : Result NameRead Fault) → IfOk (a >>= declare_name s names first number limit) (λ _. number < limit)
+      by (Ok r) = room_of r
+      by (Err e) = tt

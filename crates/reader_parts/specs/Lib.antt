@@ -1,5 +1,6 @@
 pub mod Slots
-pub mod Status
+pub mod Stages
+pub mod Binds
 pub mod Names
 pub mod Facts
 pub mod Progress

@@ -3,7 +3,7 @@
 
 ghost use Rattle.std.specs.Prelude.{◌≡◌, true, ◌+◌, ◌-◌, ◌*◌, ◌≤◌, ◌<◌, length, get_or, drop};
 ghost use mathlib.Core.List.{map, flatten};
-ghost use Rattle.reader_tokens.specs.Scan.{member, is_space, is_letter, is_digit, is_part, past, with_digit};
+ghost use Rattle.reader_tokens.specs.Scan.{is_space, is_letter, is_digit, is_part, past, with_digit};
 ghost use Rattle.reader_tokens.specs.Scan.{numeral_value, over_numeral, clamped, agree, same};
 ghost use Rattle.reader_tokens.specs.Tokens.{is_in, words, word_kind, is_single, is_pair, mark_kind};
 ghost use Rattle.reader_tokens.specs.Tokens.{mark_at, word_at, token_from, token_at};
@@ -100,59 +100,32 @@ enum Class {
     Digit,
 }
 
-fn is_among(b: u8, set: &[u8]) -> bool
-    ensures { result ≡ member b set.now }
-{
-    let mut i = 0;
-    while i < set.len() {
-        if b == set[i] {
-            return true;
-        }
-        i += 1;
-    }
-    false
-}
-
+#[tactic(auto, unfolding(crate::specs::Scan::is_space))]
 fn is_space(b: u8) -> bool
     ensures { result ≡ is_space b }
 {
-    is_among(b, b" \t\r\n")
+    b" \t\r\n".contains(&b)
 }
 
+#[tactic(auto, unfolding(crate::specs::Scan::is_letter))]
 fn is_letter(b: u8) -> bool
     ensures { result ≡ is_letter b }
 {
-    if b == b'_' {
-        return true;
-    }
-    if b < b'A' {
-        return false;
-    }
-    if b <= b'Z' {
-        return true;
-    }
-    if b < b'a' {
-        return false;
-    }
-    b <= b'z'
+    matches!(b, b'_' | b'A'..=b'Z' | b'a'..=b'z')
 }
 
+#[tactic(auto, unfolding(crate::specs::Scan::is_digit))]
 fn is_digit(b: u8) -> bool
     ensures { result ≡ is_digit b }
 {
-    if b < b'0' {
-        return false;
-    }
-    b <= b'9'
+    matches!(b, b'0'..=b'9')
 }
 
+#[tactic(auto, unfolding(crate::specs::Scan::is_part))]
 fn is_part(b: u8) -> bool
     ensures { result ≡ is_part b }
 {
-    if is_letter(b) {
-        return true;
-    }
-    is_digit(b)
+    is_letter(b) || is_digit(b)
 }
 
 fn is_in(c: Class, b: u8) -> bool
@@ -166,17 +139,16 @@ fn is_in(c: Class, b: u8) -> bool
 }
 
 // The first place at or after `at` whose byte is not in the class c.
+#[tactic(auto, using(crate::proofs::Scan::past_yes, crate::proofs::Scan::past_no, crate::proofs::Scan::past_end))]
 fn run_end(s: &[u8], at: usize, c: Class) -> usize
     ensures { result ≡ past (is_in c) s.now at }
 {
-    let mut i = at;
-    while i < s.len() {
+    for i in at..s.len() {
         if !is_in(c, s[i]) {
             return i;
         }
-        i += 1;
     }
-    i
+    at.max(s.len())
 }
 
 // Whether the first n bytes from p on in s and from q on in t are there and equal.
@@ -244,10 +216,11 @@ fn word_kind(s: &[u8], p: usize, n: usize) -> usize
 }
 
 // The marks of one byte.
+#[tactic(auto, unfolding(crate::specs::Tokens::is_single))]
 fn is_single(a: u8) -> bool
     ensures { result ≡ is_single a }
 {
-    is_among(a, b",;{}()?!=<>")
+    b",;{}()?!=<>".contains(&a)
 }
 
 // The marks of two bytes.
@@ -373,18 +346,16 @@ fn with_digit(v: usize, b: u8) -> usize
 }
 
 // The number that the digits from p on are, OVER_NUMERAL for any above the largest numeral.
+#[tactic(auto, using(crate::proofs::Scan::value_yes, crate::proofs::Scan::value_no, crate::proofs::Scan::value_end, crate::proofs::Scan::clamped_value, crate::proofs::Scan::clamped_small))]
 pub fn number_at(s: &[u8], p: usize) -> usize
     ensures { result ≡ clamped (numeral_value 0 (drop p s.now)) }
 {
     let mut v: usize = 0;
-    let mut i = p;
-    while i < s.len() {
-        let b = s[i];
-        if !is_digit(b) {
+    for i in p..s.len() {
+        if !is_digit(s[i]) {
             return v;
         }
-        v = with_digit(v, b);
-        i += 1;
+        v = with_digit(v, s[i]);
     }
     v
 }

@@ -1,9 +1,32 @@
--- `clock_part` is `clock_part`: the list past `clock`.
-use borrow.Author.Rules.{rules}
+-- The clocks are read, whatever the rest of the record is.
+use Rattle.std.proofs.Common.{◌≡◌, true, false, sym, ◌∙◌}
+use Rattle.reader_parts.specs.Binds.{err_is}
 use Rattle.reader_lists.specs.State.{next_token}
 use Rattle.reader.specs.Reading.{list_part}
 use Rattle.reader.proofs.clock_part.Goals as goal
 
+pub returns-then-not-ahead : goal.returns-then-not-ahead
+unfolding list_part
+returns-then-not-ahead c = λ init edges count.
+    let none : c.ahead.result ≡ false = c.if-not-ahead.true in
+    rw (sym c.ahead.ensures ∙ none)
+
+pub returns-in_err-a : goal.returns-in_err-a
+unfolding list_part next_token
+returns-in_err-a c = λ init edges count.
+    let some : c.ahead.result ≡ true = c.if-not-ahead.false in
+    rw (
+      err_is c.from_residual.result c.from_residual.ensures.1,
+      sym c.ahead.ensures ∙ some,
+      ← c.in_err-a.ensures,
+    )
+
 pub returns : goal.returns
 unfolding list_part next_token
-returns c init edges count = rw (← c.take-a.ensures) (c.list_part.ensures init edges count)
+returns c = λ init edges count.
+    let some : c.ahead.result ≡ true = c.if-not-ahead.false in
+    rw (
+      sym c.ahead.ensures ∙ some,
+      ← c.in_ok-a.ensures,
+      c.named_items.ensures init edges count,
+    )

@@ -1,19 +1,28 @@
--- `edge_part` is `edge_part`, by the contracts of its parts.
-use borrow.Author.Rules.{rules}
+-- The edges are read, whatever the head and the starting location are.
+use Rattle.std.proofs.Common.{◌≡◌, true, false, sym, ◌∙◌}
+use Rattle.reader_parts.specs.Binds.{err_is}
 use Rattle.reader_lists.specs.State.{next_token}
 use Rattle.reader.specs.Reading.{list_part}
 use Rattle.reader.proofs.edge_part.Goals as goal
 
-pub returns-then-ahead : goal.returns-then-ahead
+pub returns-then-not-ahead : goal.returns-then-not-ahead
+unfolding list_part
+returns-then-not-ahead c = λ h init.
+    let none : c.ahead.result ≡ false = c.if-not-ahead.true in
+    rw (sym c.ahead.ensures ∙ none, c.no_edges.ensures)
+
+pub returns-in_err-a : goal.returns-in_err-a
 unfolding list_part next_token
-returns-then-ahead c h init =
+returns-in_err-a c = λ h init.
+    let some : c.ahead.result ≡ true = c.if-not-ahead.false in
     rw (
-      ← c.ahead.ensures,
-      c.if-ahead.true,
-      ← c.take-a.ensures,
+      err_is c.from_residual.result c.from_residual.ensures.1,
+      sym c.ahead.ensures ∙ some,
+      ← c.in_err-a.ensures,
     )
-    (c.edges.ensures h init)
 
 pub returns : goal.returns
-unfolding list_part
-returns c h init = rw (← c.ahead.ensures, c.if-ahead.false, c.no_edges.ensures)
+unfolding list_part next_token
+returns c = λ h init.
+    let some : c.ahead.result ≡ true = c.if-not-ahead.false in
+    rw (sym c.ahead.ensures ∙ some, ← c.in_ok-a.ensures, c.edges.ensures h init)

@@ -1,46 +1,49 @@
--- `read_whole` is the answer of `read_whole`: the head, the starting location and the edges are the record.
-use mathlib.Core.Path.{◌≡◌}
+-- The parts in their order, each from where the one before it came to.
+use Rattle.reader_parts.specs.Binds.{err_is}
 use Rattle.reader_lists.specs.State.{with_init}
-use Rattle.reader_lists.specs.Turns.{state_of}
-use Rattle.reader_lists.specs.Heads.{whole, with_channels, no_edges}
-use Rattle.reader.specs.Reading.{read_whole, answer}
+use Rattle.reader.specs.Reading.{init_part, end_part, read_whole}
 use Rattle.reader.proofs.read_whole.Goals as goal
-use Rattle.reader.proofs.read_whole.Goals.{After-end_part-end}
 
--- the parts in their order, put together
-all_parts :
-    (c : After-end_part-end) →
-    let e = c.edge_part-e.result in
-    let i = c.init_part-i.result in
-    let r = c.read_head-r.result in
-    let s = c.args.s.now in
-    read_whole c.args.period s
-    ≡ state_of c.end_part-end.result r.names
-    (whole (with_channels r.head e.channels) i.number e.edges e.count)
-unfolding read_whole with_init
-all_parts c =
-    let e = c.edge_part-e.result in
-    let start = c.init_part-i in
-    let head = c.read_head-r in
-    let h = head.result.head in
+pub returns-in_err-r : goal.returns-in_err-r
+unfolding read_whole
+returns-in_err-r c =
+    let r = rw c.in_err-r.was at c.read_head.ensures in
+    rw (err_is c.from_residual.result c.from_residual.ensures.1, r)
+
+pub returns-in_err-i : goal.returns-in_err-i
+unfolding read_whole init_part
+returns-in_err-i c =
+    let r = rw c.in_ok-r.was at c.read_head.ensures in
+    rw (err_is c.from_residual-in_err-i.result c.from_residual-in_err-i.ensures.1, r, ← c.in_err-i.ensures)
+
+pub returns-in_err-e : goal.returns-in_err-e
+unfolding read_whole init_part with_init
+returns-in_err-e c =
+    let r = rw c.in_ok-r.was at c.read_head.ensures in
+    let e = rw c.in_err-e.was at (c.edge_part.ensures c.in_ok-r.r.head c.in_ok-i.i.number) in
     rw (
-      ← head.ensures,
-      start.ensures (whole h 0 no_edges 0),
-      c.edge_part-e.ensures h start.result.number,
-      c.end_part-end.ensures (whole (with_channels h e.channels) start.result.number e.edges e.count),
+      err_is c.from_residual-in_err-e.result c.from_residual-in_err-e.ensures.1,
+      r,
+      ← c.in_ok-i.ensures,
+      e,
     )
 
-pub returns-in-Refused : goal.returns-in-Refused
-unfolding answer
-returns-in-Refused c = rw (
-  all_parts (goal.at.returns-in-Refused c).After-end_part-end,
-  c.in-Refused.is,
-  c.refusal_of.ensures,
-)
+pub returns-in_err-end_part : goal.returns-in_err-end_part
+unfolding read_whole init_part end_part with_init
+returns-in_err-end_part c =
+    let r = rw c.in_ok-r.was at c.read_head.ensures in
+    let e = rw c.in_ok-e.was at (c.edge_part.ensures c.in_ok-r.r.head c.in_ok-i.i.number) in
+    rw (
+      err_is c.from_residual-in_err-end_part.result c.from_residual-in_err-end_part.ensures.1,
+      r,
+      ← c.in_ok-i.ensures,
+      e,
+      ← c.in_err-end_part.ensures,
+    )
 
-pub returns-in-At : goal.returns-in-At
-unfolding answer
-returns-in-At c = rw (
-  all_parts (goal.at.returns-in-At c).After-end_part-end,
-  c.in-At.is,
-)
+pub returns : goal.returns
+unfolding read_whole init_part end_part with_init
+returns c =
+    let r = rw c.in_ok-r.was at c.read_head.ensures in
+    let e = rw c.in_ok-e.was at (c.edge_part.ensures c.in_ok-r.r.head c.in_ok-i.i.number) in
+    rw (r, ← c.in_ok-i.ensures, e, ← c.in_ok-end_part.ensures)
