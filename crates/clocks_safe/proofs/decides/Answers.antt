@@ -1,5 +1,6 @@
 -- The one test or the other, by `own`.
-use mathlib.Core.Path.{sym}
+use mathlib.Core.Path.{ap}
+use mathlib.Core.Bool.{not}
 use Rattle.clocks_safe.specs.Test.{decides}
 use Rattle.clocks_safe.proofs.decides.Goals as goal
 
@@ -9,4 +10,4 @@ returns-then-own c = rw c.if-own.true c.own_passes.ensures
 
 pub returns : goal.returns
 unfolding decides
-returns c = rw (c.if-own.false, sym c.input_passes.ensures)
+returns c = rw c.if-own.false (ap not c.input_passes.ensures)
