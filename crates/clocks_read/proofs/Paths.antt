@@ -1,57 +1,61 @@
 -- The ends of the code's paths.
-use mathlib.Core.Path.{◌≡◌, sym, ap, ◌∙◌}
-use mathlib.Core.List.{List}
-use Prim.Native.Nat.{ℕ}
-use native.Mathlib.Omega.{arith}
+use Rattle.std.specs.Prelude.{◌≡◌, List, ℕ, Result, Ok, Err, ⊤, MatchResult, IsErrAnd}
+use Rattle.std.proofs.Common.{refl, sym, ap, ◌∙◌, arith}
+use Rattle.std.proofs.lemmas.Result.{err_from_is_err_and}
 use Rattle.refusals.specs.declared.Refusal.{Refusal}
+use Rattle.refusals.specs.Answers.{answer_of}
 use Rattle.reader_record.specs.declared.Text.{Text}
 use Rattle.reader_record.specs.Formed.{WellFormed}
-use Rattle.refusals.specs.declared.Verdict.{Verdict}
-use Rattle.refusals.specs.declared.Verdict.TheVariants as verdict
-use Rattle.reader.specs.declared.Parsed.{Parsed}
-use Rattle.reader.specs.Reading.{read_text}
+use Rattle.reader.specs.Reading.{record_of, read_text}
 use Rattle.reader_formed.proofs.Formed.{read_formed}
-use Rattle.clocks.specs.declared.Judged.{Judged}
-use Rattle.clocks_states.specs.Parts.{Counted}
-use Rattle.clocks.specs.States.{judgement}
+use Rattle.clocks.specs.declared.Flaw.{Flaw}
+use Rattle.clocks.specs.States.{state_count, judgement}
 use Rattle.clocks.specs.Encoding.{judged_table, judged_holds}
 use Rattle.clocks_read.specs.declared.Reading.{Reading}
-use Rattle.clocks_read.specs.declared.Measured.{Measured}
-use Rattle.clocks_read.specs.Reading.{refused, judged_reading}
-use Rattle.clocks_read.specs.Loading.{Loading, loading, judged_loading, parsed_loading}
-use Rattle.clocks_read.specs.Measured.{Measures, measured_loading}
+use Rattle.clocks_read.specs.Reading.{flaw_refusal, judged_reading}
+use Rattle.clocks_read.specs.Loading.{loading, judged_loading}
 
-refused_accepted : {P : Type 0} (f : Refusal) → ◌≡◌ {A = Verdict} (verdict.Refused f) verdict.Accepted → P
-refused_accepted f e = let z : ◌≡◌ {A = ℕ} 0 1 = cc in absurd (omega arith)
+-- the judgement with its flaw as a refusal
+abbrev pub mapped : Result ⊤ Flaw → Result ⊤ Refusal
+mapped (Ok u) = Ok u
+mapped (Err f) = Err (flaw_refusal f)
 
-pub judged_done : (t : Text) (m h m' h' : List ℕ) (j : Judged) (r : Reading) → (j ≡ judgement t)
-    × (m' ≡ judged_table t m) × (h' ≡ judged_holds t h) → r ≡ judged_reading j t → loading r m' h'
-    ≡ judged_loading t m h
-unfolding judged_loading
-judged_done t m h m' h' j r (a, b, c) e = rw (e, a, b, c)
+pub map_is : (j : Result ⊤ Flaw) (r : Result ⊤ Refusal)
+    → MatchResult j (λ x. r ≡ Ok x) (λ e. IsErrAnd r (λ f. f ≡ flaw_refusal e)) → r ≡ mapped j
+map_is (Ok u) r h = h
+map_is (Err e) r h = let (f, is, same) = err_from_is_err_and r h in is ∙ ap (λ (g : Refusal). Err g) same
 
-module _ (m : Measured) (moves holds : List ℕ) where
-  pub loads_refused : (f : Refusal) (r : Reading) → m.parsed.answer ≡ verdict.Refused f → r ≡ refused f
-      → loading r moves holds ≡ measured_loading m moves holds
-  unfolding measured_loading parsed_loading
-  loads_refused f r a q = rw (a, q)
+refused_reading : (t : Text) (j : Result ⊤ Flaw) (f : Refusal) → mapped j ≡ Err f → judged_reading j t ≡ Err f
+unfolding judged_reading
+refused_reading t (Ok u) f i = let z : ◌≡◌ {A = ℕ} 0 1 = cc in absurd (omega arith)
+refused_reading t (Err g) f i = let k : flaw_refusal g ≡ f = cc in rw k
 
-  pub loads_judged : (l : Loading) → m.parsed.answer ≡ verdict.Accepted → l ≡ judged_loading m.parsed.text moves holds
-      → l ≡ measured_loading m moves holds
-  unfolding measured_loading parsed_loading
-  loads_judged l a q = q ∙ rw a
+accepted_reading : (t : Text) (j : Result ⊤ Flaw) → mapped j ≡ Ok tt
+    → judged_reading j t ≡ Ok (record { text = t; states = state_count t })
+unfolding judged_reading
+accepted_reading t (Ok u) i = refl
+accepted_reading t (Err g) i = let z : ◌≡◌ {A = ℕ} 0 1 = cc in absurd (omega arith)
 
-module _ (period : ℕ) where
-  -- what is read is well formed
-  pub load_formed : (s : List ℕ) (p : Parsed) → p ≡ read_text period s → p.answer ≡ verdict.Accepted
-      → WellFormed p.text
-  load_formed s p e a = rw e (read_formed period s (sym (ap (λ (x : Parsed). x.answer) e) ∙ a))
+-- what `judge` leaves, by the answer of the judgement
+module _ (t : Text) (m h m' h' : List ℕ) (j : Result ⊤ Flaw) (r : Result ⊤ Refusal)
+    (e : (j ≡ judgement t) × (m' ≡ judged_table t m) × (h' ≡ judged_holds t h))
+    (q : MatchResult j (λ x. r ≡ Ok x) (λ e. IsErrAnd r (λ f. f ≡ flaw_refusal e))) where
+  pub judge_done : (x : Result Reading Refusal) → judged_reading j t ≡ x → loading x m' h' ≡ judged_loading t m h
+  unfolding judged_loading
+  judge_done x i = let (a, b, c) = e in rw (b, c, ← i, a)
 
-  -- a refused text is measured by anything
-  pub measured_refused : (s : List ℕ) (m : Measured) (f : Refusal) → m.parsed ≡ read_text period s
-      → m.parsed.answer ≡ verdict.Refused f → Measures period s m
-  measured_refused s m f e a = record { parsed = e; counted = record { counts = λ b. refused_accepted f (sym a ∙ b) } }
+  pub judge_refused : (f : Refusal) (x : Result Reading Refusal) → r ≡ Err f → IsErrAnd x (λ g. g ≡ f)
+      → loading x m' h' ≡ judged_loading t m h
+  judge_refused f x i k =
+      let (g, is, same) = err_from_is_err_and x k in
+      judge_done x (refused_reading t j f (sym (map_is j r q) ∙ i) ∙ sym (is ∙ ap (λ (y : Refusal). Err y) same))
 
-  pub measured_accepted : (s : List ℕ) (m : Measured) → m.parsed ≡ read_text period s
-      → Counted m.parsed.text m.ranges m.states → Measures period s m
-  measured_accepted s m e c = record { parsed = e; counted = record { counts = λ b. c } }
+  pub judge_accepted : (n : ℕ) → r ≡ Ok tt → n ≡ state_count t
+      → loading (Ok (record { text = t; states = n })) m' h' ≡ judged_loading t m h
+  judge_accepted n i k =
+      judge_done _ (accepted_reading t j (sym (map_is j r q) ∙ i) ∙ rw k)
+
+-- what is read is well formed
+pub parsed_formed : (period : ℕ) (s : List ℕ) (t : Text) → Ok t ≡ read_text period s → WellFormed t
+parsed_formed period s t e =
+    rw (ap record_of e) (read_formed period s (sym (ap answer_of e)))

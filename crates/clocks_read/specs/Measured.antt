@@ -1,22 +1,28 @@
 -- A text that is parsed and measured: what its slices need follows from the number of its states.
-use Rattle.std.specs.Prelude.{◌≡◌, List, ℕ}
-use Rattle.refusals.specs.declared.Verdict.TheVariants as verdict
+use Rattle.std.specs.Prelude.{◌≡◌, List, ℕ, Result, Ok, Err, IfOk}
+use Rattle.refusals.specs.declared.Refusal.{Refusal}
+use Rattle.reader_record.specs.declared.Text.{Text}
 use Rattle.reader.specs.Reading.{read_text}
 use Rattle.clocks_states.specs.Parts.{Counted}
 use Rattle.clocks_read.specs.declared.Measured.{Measured}
-use Rattle.clocks_read.specs.Loading.{Loading, parsed_loading}
+use Rattle.clocks_read.specs.Loading.{Loading, judged_loading}
 
--- the ranges and the number of states are those of the text, if it is accepted
-pub record WellMeasured (m : Measured) : Type 0 where
-  pub counts : m.parsed.answer ≡ verdict.Accepted → Counted m.parsed.text m.ranges m.states
+-- the ranges and the number of states are those of the text
+abbrev pub WellMeasured : Measured → Type 0
+WellMeasured m = Counted m.text m.ranges m.states
 
 -- the judgement of codes 9 to 11 on it, with the slices
-unfoldable pub measured_loading : Measured → List ℕ → List ℕ → Loading
-measured_loading m moves holds = parsed_loading m.parsed.answer m.parsed.text moves holds
+abbrev pub measured_loading : Measured → List ℕ → List ℕ → Loading
+measured_loading m moves holds = judged_loading m.text moves holds
+
+-- the text that is measured, or its refusal
+abbrev pub parsed_of : Result Measured Refusal → Result Text Refusal
+parsed_of (Ok m) = Ok m.text
+parsed_of (Err f) = Err f
 
 -- at one tick length, `period` (SPECIFICATION 4.7)
 module _ (period : ℕ) where
-  -- m is the text s, parsed and measured
-  pub record Measures (s : List ℕ) (m : Measured) : Type 0 where
-    pub parsed : m.parsed ≡ read_text period s
-    pub counted : WellMeasured m
+  -- m is the text s, parsed and measured, or its refusal by code 24 or one of the codes 1 to 8
+  pub record Measures (s : List ℕ) (m : Result Measured Refusal) : Type 0 where
+    pub parsed : parsed_of m ≡ read_text period s
+    pub counted : IfOk m WellMeasured

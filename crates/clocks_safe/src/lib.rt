@@ -46,10 +46,7 @@ fn decides(keep: &[u8], t: usize, input: bool, own: bool) -> bool
     if own {
         return own_passes(keep, t, input);
     }
-    if input_passes(keep, t, input) {
-        return false;
-    }
-    true
+    !input_passes(keep, t, input)
 }
 
 // Whether some step of state s decides.
@@ -67,13 +64,11 @@ fn some_decides(
         own }
 {
     let base = s * steps;
-    let mut c: usize = 0;
-    while c < steps {
+    for c in 0..steps {
         let t = moves[base + c] as usize;
         if decides(keep, t, inputs[c], own) {
             return true;
         }
-        c += 1;
     }
     false
 }
@@ -119,9 +114,7 @@ pub fn settle(
     let mut left = count;
     loop {
         let before = left;
-        let mut s = n;
-        while 0 < s {
-            s -= 1;
+        for s in (0..n).rev() {
             left -= visit(keep, moves, inputs, n, steps, s);
         }
         if left == before {

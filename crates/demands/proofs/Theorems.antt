@@ -1,4 +1,4 @@
--- DEMANDS 1 TO 3 (SPECIFICATION 17.1 to 17.3) for any two systems M, the left, and N, the right, of one signature that
+-- SPECIFICATION 17.1 to 17.3 for any two systems M, the left, and N, the right, of one signature that
 -- are capped to finite ones L and R: theorems about the outcomes of search, check and widest table (search_systems,
 -- check_systems, widest_systems), to be read first. The words are defined in specs/Words.antt, what is asked in
 -- specs/Demands.antt and specs/Answers.antt; the other files of this crate are proofs. An operation over two texts is
@@ -9,7 +9,7 @@ use Rattle.systems.specs.Finite.{FiniteSystem, Capping, SafeAt}
 use Rattle.systems.proofs.Theorems.{safe_states_largest}
 use Rattle.search.specs.Outcome.{search_systems}
 use Rattle.tables.specs.Outcome.{check_systems, widest_systems}
-use Rattle.demands.specs.Words.{Consistent, search_refusal, check_refusal, widest_refusal, LongEnough, RightForm}
+use Rattle.demands.specs.Words.{Consistent, LongEnough, RightForm}
 use Rattle.demands.specs.Demands.{SearchDemand, CheckDemand, WidestDemand}
 use Rattle.demands.specs.Answers.{SearchAnswers, CheckAnswers, WidestAnswers}
 use Rattle.demands.proofs.Answered as answered
@@ -24,7 +24,7 @@ pub safe_states_exist : {A : Signature} {M : System A} {L : FiniteSystem A} → 
 safe_states_exist C = (SafeAt C, safe_states_largest C)
 
 module _ {A : Signature} {M N : System A} {L R : FiniteSystem A} (C : Capping M L) (D : Capping N R) where
-  -- DEMAND 1 (SPECIFICATION 17.1). An operation gives the one of the codes 13 to 21 whose case applies, in the order
+  -- SPECIFICATION 17.1: an operation gives the one of the codes 13 to 21 whose case applies, in the order
   -- of SPECIFICATION 13.3, or succeeds.
   pub demand_1_search : (keep : List ℕ) (back line : ℕ) (run : List ℕ)
       → SearchAnswers M N L.size R.size C.cap D.cap keep back line run
@@ -41,22 +41,22 @@ module _ {A : Signature} {M N : System A} {L R : FiniteSystem A} (C : Capping M 
 
   -- With a consistent left and slices that are long enough:
   module _ (consistent : Consistent M) where
-    -- DEMAND 2, the check of a table with a right header and a right length (SPECIFICATION 17.2).
+    -- SPECIFICATION 17.2, the check of a table with a right header and a right length.
     pub demand_2_check : (keep table : List ℕ) → RightForm L.size R.size table
-        → LongEnough (check_refusal (check_systems L R keep table).answer)
+        → LongEnough (check_systems L R keep table).answer
         → CheckDemand M N L.size R.size C.cap D.cap keep table (check_systems L R keep table)
     demand_2_check keep table form long =
         checked.answers_demand M N L.size R.size C.cap D.cap consistent keep table form
         (check_systems L R keep table) long (answered.check_answered C D keep table)
 
-    -- DEMAND 2, the widest table (SPECIFICATION 17.2).
+    -- SPECIFICATION 17.2, the widest table.
     pub demand_2_widest : (keep table : List ℕ)
-        → LongEnough (widest_refusal (widest_systems L R keep table).answer)
+        → LongEnough (widest_systems L R keep table).answer
         → WidestDemand M N L.size R.size C.cap D.cap keep table (widest_systems L R keep table)
     demand_2_widest = widened.demand_2_widest C D consistent
 
-    -- DEMAND 3, the search (SPECIFICATION 17.3).
+    -- SPECIFICATION 17.3, the search.
     pub demand_3 : (keep : List ℕ) (back line : ℕ) (run : List ℕ)
-        → LongEnough (search_refusal (search_systems L R keep back line run).answer)
+        → LongEnough (search_systems L R keep back line run).answer
         → SearchDemand M N L.size R.size C.cap D.cap keep run (search_systems L R keep back line run)
     demand_3 = searched.demand_3 C D consistent

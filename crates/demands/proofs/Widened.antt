@@ -1,9 +1,9 @@
--- Demand 2 about the outcome of the widest table.
-use Rattle.std.specs.Prelude.{◌≡◌, refl, ◌↔◌, Bool, true, false, cond, List, ℕ, ◌≤◌, ◌<◌, T, ltb, length, drop}
+-- What SPECIFICATION 17.2 asks of the outcome of the widest table.
+use Rattle.std.specs.Prelude.{◌≡◌, refl, ◌↔◌, Bool, true, false, cond, List, ℕ, ◌≤◌, ◌<◌, T, ltb, length, drop, Ok}
 use Rattle.std.proofs.Common.{sym, ap, subst, arith, ltb-false}
 use Rattle.std.proofs.Math.Bool.{not}
 use Rattle.refusals.specs.declared.Refusal.{Refusal}
-use Rattle.refusals.specs.Refusals.{keep_too_short, table_too_short, start_not_safe}
+use Rattle.refusals.specs.declared.Refusal.TheVariants.{KeepTooShort, TableTooShort, StartNotSafe}
 use Rattle.systems.specs.Bools.{T_true}
 use Rattle.systems.specs.Tests.{ones}
 use Rattle.systems.specs.Definitions.{Signature, System}
@@ -12,9 +12,8 @@ use Rattle.systems.proofs.Theorems.{safe_states_largest, implementation_iff, wid
 use Rattle.bitmaps.specs.Packed.{bytes_for, packed}
 use Rattle.tables_header.specs.Header.{header_bytes, table_bytes}
 use Rattle.tables_rows.specs.Raster.{set_at}
-use Rattle.tables.specs.declared.WidestAnswer.TheVariants as made
 use Rattle.tables.specs.Outcome.{Widened, widest_refused, widest_systems}
-use Rattle.demands.specs.Words.{Consistent, widest_refusal, LongEnough, Denotes}
+use Rattle.demands.specs.Words.{Consistent, LongEnough, Denotes}
 use Rattle.demands.specs.Demands.{WidestDemand}
 use Rattle.demands.proofs.Same.{refines_same}
 use Rattle.demands.proofs.Kept.{keeps}
@@ -27,11 +26,10 @@ record MadeTable (keep_short table_short : Bool) (o f : Widened) : Type 0 where
   table_long : table_short ≡ false
 
 widest_passed : (b c d : Bool) (i j : ℕ) (t : Refusal) (keep kept given : List ℕ) (f : Widened) → d ≡ false
-    → LongEnough (widest_refusal (cond b (widest_refused (keep_too_short i) keep given)
-    (cond c (widest_refused (table_too_short j) keep given) (cond d (widest_refused t kept given) f))).answer)
-    → MadeTable b c (cond b (widest_refused (keep_too_short i) keep given)
-    (cond c (widest_refused (table_too_short j) keep given) (cond d (widest_refused t kept given) f))) f
-unfolding widest_refusal
+    → LongEnough (cond b (widest_refused (KeepTooShort i) keep given)
+    (cond c (widest_refused (TableTooShort j) keep given) (cond d (widest_refused t kept given) f))).answer
+    → MadeTable b c (cond b (widest_refused (KeepTooShort i) keep given)
+    (cond c (widest_refused (TableTooShort j) keep given) (cond d (widest_refused t kept given) f))) f
 widest_passed true c d i j t keep kept given f k l = absurd (l.keep i refl)
 widest_passed false true d i j t keep kept given f k l = absurd (l.table j refl)
 widest_passed false false true i j t keep kept given f k l = let y : ◌≡◌ {A = ℕ} 0 1 = cc in absurd (omega arith)
@@ -51,18 +49,18 @@ module _ {A : Signature} {M N : System A} {L R : FiniteSystem A} (C : Capping M 
 
   abbrev widest_made : Widened
   widest_made = record {
-    answer = made.Made (ones (widest L R)) (cell L R (widest L R) L.start R.start);
+    answer = Ok (record { count = ones (widest L R); start = cell L R (widest L R) L.start R.start });
     keep = kept_bytes;
     table = file_made;
   }
 
-  made_is : LongEnough (widest_refusal (widest_systems L R keep given).answer)
+  made_is : LongEnough (widest_systems L R keep given).answer
       → MadeTable (ltb (length keep) (bytes_for L.size)) (ltb (length given) (table_bytes R.size L.size))
       (widest_systems L R keep given) widest_made
   unfolding widest_systems
   made_is l =
       widest_passed (ltb (length keep) (bytes_for L.size)) (ltb (length given) (table_bytes R.size L.size))
-      (not (safe L L.start)) (bytes_for L.size) (table_bytes R.size L.size) (start_not_safe L.start) keep
+      (not (safe L L.start)) (bytes_for L.size) (table_bytes R.size L.size) (StartNotSafe L.start) keep
       kept_bytes given widest_made (ap not (T_true (safe L L.start) start_safe)) l
 
   file_widest : table_bytes R.size L.size ≤ length given → (x : M.State) (y : N.State)
@@ -75,7 +73,7 @@ module _ {A : Signature} {M N : System A} {L R : FiniteSystem A} (C : Capping M 
         λ (p, q, t). (p, q, subst T (sym (same (C.cap x) (D.cap y) p q)) t),
       )
 
-  pub demand_2_widest : LongEnough (widest_refusal (widest_systems L R keep given).answer)
+  pub demand_2_widest : LongEnough (widest_systems L R keep given).answer
       → WidestDemand M N L.size R.size C.cap D.cap keep given (widest_systems L R keep given)
   demand_2_widest l =
       let p = made_is l in

@@ -1,28 +1,25 @@
--- What demands 2 and 3 (SPECIFICATION 17.2, 17.3) ask of the outcomes of search, check and widest table, for two
+-- What SPECIFICATION 17.2 and 17.3 ask of the outcomes of search, check and widest table, for two
 -- systems M, the left, and N, the right, of one signature. Definitions only: the theorems are in proofs/Theorems.antt.
-use Rattle.std.specs.Prelude.{◌≡◌, ◌↔◌, Bool, false, List, ℕ, ◌*◌, ◌≤◌, ◌<◌, T, length, take, drop}
+use Rattle.std.specs.Prelude.{◌≡◌, ◌↔◌, Bool, false, List, ℕ, ◌*◌, ◌≤◌, ◌<◌, T, length, take, drop, Ok}
 use Rattle.systems.specs.Tests.{ones}
 use Rattle.systems.specs.Definitions.{Signature, System, Implementation, Satisfies, LargestSafeSet, Makes, Allows, NoDeparture, ShortestDeparture, Refines}
 use Rattle.bitmaps.specs.Packed.{bytes_for}
 use Rattle.tables_header.specs.Header.{table_bytes}
 use Rattle.tables_rows.specs.Raster.{set_at, denoted}
-use Rattle.search.specs.declared.SearchAnswer.TheVariants as search_answer
 use Rattle.search.specs.Outcome as search
-use Rattle.tables.specs.declared.CheckAnswer.TheVariants as checked
-use Rattle.tables.specs.declared.WidestAnswer.TheVariants as made
 use Rattle.tables.specs.Outcome.{Checked, Widened}
 use Rattle.demands.specs.Words.{KeepWritten, RightForm, raster_behind, Denotes}
 
 -- `states` and `right_states` are the numbers of states, `number` and `right_number` give a configuration's
 module _ {A : Signature} (M N : System A) (states right_states : ℕ) (number : M.State → ℕ)
     (right_number : N.State → ℕ) where
-  -- Demand 3 (SPECIFICATION 17.3)
+  -- The search (SPECIFICATION 17.3)
 
   -- What is asked of the search's outcome o, where keep and run came as `keep` and `run`.
   pub record SearchDemand (keep run : List ℕ) (o : search.Outcome) : Type 1 where
     -- the answer is a number n (SPECIFICATION 12.4)
     pub n : ℕ
-    pub answer : o.answer ≡ search_answer.Found n
+    pub answer : o.answer ≡ Ok n
     -- run has its n steps in front, and behind them what it had before (SPECIFICATION 12.4, 12.7)
     pub written : length (take n o.run) ≡ n
     pub long : length o.run ≡ length run
@@ -45,18 +42,18 @@ module _ {A : Signature} (M N : System A) (states right_states : ℕ) (number : 
     -- keep holds the left's safe states (SPECIFICATION 8.4, 12.3)
     pub kept : KeepWritten M states number keep o.keep
 
-  -- Demand 2 (SPECIFICATION 17.2)
+  -- The check and the widest table (SPECIFICATION 17.2)
 
   -- What is asked of the check's outcome o for the table `given`, where keep came as `keep`.
   pub record CheckDemand (keep given : List ℕ) (o : Checked) : Type 1 where
     -- the table is accepted exactly when the relation it denotes over uncapped clocks contains the start pair and
     -- meets the rules (SPECIFICATION 9.4, 11.4, 11.5); S: the left's safe states
     pub accepted : (S : M.State → Type 0) → LargestSafeSet M S
-        → ((n : ℕ) × (o.answer ≡ checked.Accepted n))
+        → ((n : ℕ) × (o.answer ≡ Ok n))
         ↔ (Denotes states right_states number right_number given M.start N.start
         × Refines M N S (Denotes states right_states number right_number given))
     -- the number given with acceptance is that of the pairs set (SPECIFICATION 11.3, 12.5)
-    pub count : (n : ℕ) → o.answer ≡ checked.Accepted n
+    pub count : (n : ℕ) → o.answer ≡ Ok n
         → n ≡ ones (denoted states right_states (raster_behind states right_states given))
     -- keep holds the left's safe states (SPECIFICATION 8.4, 12.3)
     pub kept : KeepWritten M states number keep o.keep
@@ -66,7 +63,7 @@ module _ {A : Signature} (M N : System A) (states right_states : ℕ) (number : 
     -- the answer is a count and a truth value (SPECIFICATION 12.6)
     pub count : ℕ
     pub start : Bool
-    pub answer : o.answer ≡ made.Made count start
+    pub answer : o.answer ≡ Ok (record { count = count; start = start })
     -- the table written has the right header and length, and behind it stands what was there before
     -- (SPECIFICATION 11.1, 12.7)
     pub form : RightForm states right_states (take (table_bytes right_states states) o.table)

@@ -1,48 +1,28 @@
 -- The words of the demands, for systems whose configurations have state numbers: `states` is how many there are, and
 -- `number` gives each configuration's. Definitions only (SPECIFICATION 8.2, 8.4, 9.4, 11.1 to 11.5, 12.8).
-use Rattle.std.specs.Prelude.{◌≡◌, ◌↔◌, ◌⊎◌, false, List, ℕ, ◌*◌, ◌≤◌, ◌<◌, T, length, drop}
-use Rattle.std.proofs.Math.Option.{Option, none, some}
+use Rattle.std.specs.Prelude.{◌≡◌, ◌↔◌, ◌⊎◌, false, List, ℕ, ◌*◌, ◌≤◌, ◌<◌, T, length, drop, Result, Err}
 use Rattle.refusals.specs.declared.Refusal.{Refusal}
-use Rattle.refusals.specs.Refusals.{keep_too_short, table_too_short, queue_too_short, run_too_short}
+use Rattle.refusals.specs.declared.Refusal.TheVariants.{KeepTooShort, TableTooShort, QueueTooShort, RunTooShort}
 use Rattle.systems.specs.Definitions.{Signature, System, Implementation, Satisfies, LargestSafeSet, StepRules}
 use Rattle.bitmaps.specs.Bits.{bit_at}
 use Rattle.bitmaps.specs.Packed.{bytes_for}
 use Rattle.tables_header.specs.Header.{header_bytes, fits}
 use Rattle.tables_rows.specs.Raster.{set_at}
-use Rattle.search.specs.declared.SearchAnswer.{SearchAnswer}
-use Rattle.search.specs.declared.SearchAnswer.TheVariants as search
-use Rattle.tables.specs.declared.CheckAnswer.{CheckAnswer}
-use Rattle.tables.specs.declared.CheckAnswer.TheVariants as check
-use Rattle.tables.specs.declared.WidestAnswer.{WidestAnswer}
-use Rattle.tables.specs.declared.WidestAnswer.TheVariants as widest
 
 -- a consistent system: some implementation satisfies it (SPECIFICATION 8.2)
 abbrev pub Consistent : {A : Signature} → System A → Type 1
 Consistent {A} M = (I : Implementation A) × Satisfies I M
 
--- the refusal of an answer, if it is one
-unfoldable pub search_refusal : SearchAnswer → Option Refusal
-search_refusal (search.Found n) = none
-search_refusal (search.Refused r) = some r
-
-unfoldable pub check_refusal : CheckAnswer → Option Refusal
-check_refusal (check.Accepted n) = none
-check_refusal (check.Refused r) = some r
-
-unfoldable pub widest_refusal : WidestAnswer → Option Refusal
-widest_refusal (widest.Made n b) = none
-widest_refusal (widest.Refused r) = some r
-
--- no refusal of this kind is given, whatever number it names
-abbrev pub Without : (ℕ → Refusal) → Option Refusal → Type 0
-Without kind o = (p : ℕ) → o ≡ some (kind p) → ⊥
+-- the answer is no refusal of this kind, whatever number it names
+abbrev pub Without : {A : Type 0} → (ℕ → Refusal) → Result A Refusal → Type 0
+Without kind answer = (p : ℕ) → answer ≡ Err (kind p) → ⊥
 
 -- slices that are long enough: no refusal asks for a longer one (SPECIFICATION 12.8)
-pub record LongEnough (o : Option Refusal) : Type 0 where
-  pub keep : Without keep_too_short o
-  pub table : Without table_too_short o
-  pub queue : Without queue_too_short o
-  pub run : Without run_too_short o
+pub record LongEnough {A : Type 0} (answer : Result A Refusal) : Type 0 where
+  pub keep : Without KeepTooShort answer
+  pub table : Without TableTooShort answer
+  pub queue : Without QueueTooShort answer
+  pub run : Without RunTooShort answer
 
 -- what keep is to hold (SPECIFICATION 8.4): the bit of a configuration's state says whether it is in S, the safe
 -- states; spare bits are 0, and later bytes are as they were

@@ -1,3 +1,3 @@
-// Theorems only, in proofs/, over definitions in specs/: demands 1 to 3 (SPECIFICATION 17.1 to 17.3) about the outcomes
+// Theorems only, in proofs/, over definitions in specs/: SPECIFICATION 17.1 to 17.3 about the outcomes
 // of search, check and widest table, for any two systems.
 #![tactic(auto)]

@@ -1,68 +1,31 @@
 // Whether the records of two texts have the same constants: of a text in milliseconds, and of the same text in ticks
 // (SPECIFICATION 4.7, 5.3).
-use super::numbers::{medium, small};
-use limits::{CLOCK_LIMIT, COMPARISON_LIMIT, EDGE_LIMIT, LOCATION_LIMIT};
-use reader_record::{Constraint, Edge, Text};
+use reader_record::{Constraint, Edge, Location, Text};
 
-fn same_bounds(g: Constraint, h: Constraint) -> bool {
-    let count = small(g.count);
-    if small(h.count) != count {
-        return false;
-    }
-    for k in 0..COMPARISON_LIMIT {
-        let a = g.comparisons[k];
-        let b = h.comparisons[k];
-        if k < count && medium(a.bound) != medium(b.bound) {
-            return false;
-        }
-    }
-    true
+fn same_bounds(g: &Constraint, h: &Constraint) -> bool {
+    let pairs = g.comparisons.iter().zip(h.comparisons.iter());
+    g.count == h.count
+        && pairs
+            .take(usize::from(g.count))
+            .all(|(a, b)| a.bound == b.bound)
 }
 
-fn same_invariants(t: Text, u: Text) -> bool {
-    for i in 0..LOCATION_LIMIT {
-        let l = t.locations[i];
-        let m = u.locations[i];
-        let g = l.invariant;
-        let h = m.invariant;
-        if i < t.location_count && !same_bounds(g, h) {
-            return false;
-        }
-    }
-    true
+fn same_invariants(l: &Location, m: &Location) -> bool {
+    same_bounds(&l.invariant, &m.invariant)
 }
 
-// Whether two edges assign the same clocks, with the same value and the same largest one written.
-fn same_assignments(e: Edge, f: Edge) -> bool {
-    for k in 0..CLOCK_LIMIT {
-        let a = e.assignments[k];
-        let b = f.assignments[k];
-        if a.made != b.made || a.value != b.value || a.largest != b.largest {
-            return false;
-        }
-    }
-    true
+// Whether two edges have the same bounds, and assign the same clocks with the same values and largest ones written.
+fn same_edges(e: &Edge, f: &Edge) -> bool {
+    same_bounds(&e.guard, &f.guard) && e.assignments == f.assignments
 }
 
-fn same_edges(t: Text, u: Text) -> bool {
-    for i in 0..EDGE_LIMIT {
-        let e = t.edges[i];
-        let f = u.edges[i];
-        let g = e.guard;
-        let h = f.guard;
-        if i < t.edge_count && !(same_bounds(g, h) && same_assignments(e, f)) {
-            return false;
-        }
-    }
-    true
-}
-
-pub fn same_constants(t: Text, u: Text) -> bool {
-    if t.location_count != u.location_count {
-        return false;
-    }
-    if t.edge_count != u.edge_count {
-        return false;
-    }
-    same_invariants(t, u) && same_edges(t, u)
+pub fn same_constants(t: &Text, u: &Text) -> bool {
+    let locations = t.locations.iter().zip(u.locations.iter());
+    let edges = t.edges.iter().zip(u.edges.iter());
+    t.location_count == u.location_count
+        && t.edge_count == u.edge_count
+        && locations
+            .take(t.location_count)
+            .all(|(l, m)| same_invariants(l, m))
+        && edges.take(t.edge_count).all(|(e, f)| same_edges(e, f))
 }

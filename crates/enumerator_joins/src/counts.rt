@@ -1,254 +1,158 @@
 // Which edges of two texts match, and whether the joined text would pass a limit (SPECIFICATION 18.4, 18.8). Every pair
 // is tried.
 use enumerator::late::sets_late;
-use enumerator::numbers::{NOWHERE, medium, plus, quotient, remainder, small, times};
-use enumerator::pairs::{Two, right_step};
+use enumerator::moves::channel_of;
+use enumerator::numbers::{plus, times};
+use enumerator::pairs::Two;
 use enumerator::states::{largest_in, largest_in_invariants};
 use limits::{CLOCK_LIMIT, COMPARISON_LIMIT, EDGE_LIMIT, LOCATION_LIMIT, STATE_LIMIT};
-use reader_record::{Edge, Label, Text};
+use reader_record::{Constraint, Edge, Location, Text};
 
 // A clock has so many values from M on (SPECIFICATION 6.4).
 const PAST_LARGEST: usize = 2;
 
-// The right's number of the channel of each edge of two texts, NOWHERE past the last edge.
+// Two texts with equal channels.
 #[derive(Clone, Copy)]
-pub struct Channels {
-    pub left: [usize; EDGE_LIMIT],
-    pub right: [usize; EDGE_LIMIT],
-    pub left_edges: usize,
-    pub right_edges: usize,
+pub struct Both<'a> {
+    pub left: &'a Text,
+    pub right: &'a Text,
+    pub two: &'a Two,
 }
 
-// The entry at a place, NOWHERE past the end.
-pub fn entry(a: &[usize], i: usize) -> usize {
-    if i < a.len() {
-        return a[i];
-    }
-    NOWHERE
+// Whether two constraints have too many comparisons together.
+fn are_long(g: &Constraint, h: &Constraint) -> bool {
+    COMPARISON_LIMIT < plus(usize::from(g.count), usize::from(h.count))
 }
 
-// The channel of an edge, by its number in its own text.
-pub fn channel_of(e: Edge) -> usize {
-    let l = e.label;
-    match l {
-        Label::Input(c) => small(c),
-        Label::Output(c) => small(c),
-    }
-}
-
-fn left_channels(l: Text, w: Two) -> [usize; EDGE_LIMIT] {
-    let mut channels = [NOWHERE; EDGE_LIMIT];
-    for i in 0..EDGE_LIMIT {
-        let e = l.edges[i];
-        let mut c = NOWHERE;
-        if i < l.edge_count {
-            c = right_step(w, channel_of(e));
+// The largest value that an edge sets each clock to, which is the only one that is written (SPECIFICATION 18.5), and that
+// its guard compares it with; those given, where they are larger.
+fn raise(most: &mut [usize; CLOCK_LIMIT], e: &Edge) {
+    for (clock, (m, a)) in most.iter_mut().zip(e.assignments.iter()).enumerate() {
+        *m = (*m).max(largest_in(&e.guard, clock));
+        if a.made {
+            *m = (*m).max(usize::from(a.value));
         }
-        channels[i] = c;
     }
-    channels
 }
 
-fn right_channels(r: Text) -> [usize; EDGE_LIMIT] {
-    let mut channels = [NOWHERE; EDGE_LIMIT];
-    for i in 0..EDGE_LIMIT {
-        let e = r.edges[i];
-        let mut c = NOWHERE;
-        if i < r.edge_count {
-            c = channel_of(e);
+// The product of the numbers of values of a text's clocks by the constants that are written: those of all invariants,
+// and those of the guards and assignments of edges that match one.
+fn values_of<F: Fn(&Edge) -> bool>(t: &Text, has_match: F) -> usize
+    requires { F.IsAlwaysCallable has_match }
+{
+    let mut most = [0; CLOCK_LIMIT];
+    for (clock, m) in most.iter_mut().enumerate() {
+        *m = largest_in_invariants(t, clock);
+    }
+    for e in t.edges.iter().take(t.edge_count) {
+        if has_match(e) {
+            raise(&mut most, e);
         }
-        channels[i] = c;
     }
-    channels
-}
-
-pub fn channels_of(l: Text, r: Text, w: Two) -> Channels {
-    let left = left_channels(l, w);
-    let right = right_channels(r);
-    Channels {
-        left,
-        right,
-        left_edges: l.edge_count,
-        right_edges: r.edge_count,
-    }
-}
-
-// Two edges match if their channels have one name. No edge past the last one matches.
-pub fn is_match(left: &[usize], i: usize, right: &[usize], j: usize) -> bool {
-    let c = entry(left, i);
-    c != NOWHERE && c == entry(right, j)
-}
-
-// The number of matching pairs.
-fn matches(c: Channels) -> usize {
-    let left = c.left;
-    let right = c.right;
-    let pairs = times(c.left_edges, c.right_edges);
-    let mut n: usize = 0;
-    for k in 0..pairs {
-        if is_match(
-            &left,
-            quotient(k, c.right_edges),
-            &right,
-            remainder(k, c.right_edges),
-        ) {
-            n = plus(n, 1);
-        }
+    let mut n = 1;
+    for m in most.iter().take(t.clock_count) {
+        n = times(n, plus(*m, PAST_LARGEST));
     }
     n
 }
 
-// The number of comparisons in the guard of each edge, and in the invariant of each location.
-fn guards(t: Text) -> [usize; EDGE_LIMIT] {
-    let mut counts = [0usize; EDGE_LIMIT];
-    for i in 0..EDGE_LIMIT {
-        let e = t.edges[i];
-        let g = e.guard;
-        counts[i] = small(g.count);
-    }
-    counts
-}
-
-fn invariants(t: Text) -> [usize; LOCATION_LIMIT] {
-    let mut counts = [0usize; LOCATION_LIMIT];
-    for i in 0..LOCATION_LIMIT {
-        let l = t.locations[i];
-        let g = l.invariant;
-        counts[i] = small(g.count);
-    }
-    counts
-}
-
-// Whether a matching pair has too many comparisons in its two guards.
-fn has_long_guard(c: Channels, l: &[usize], r: &[usize]) -> bool {
-    let left = c.left;
-    let right = c.right;
-    let pairs = times(c.left_edges, c.right_edges);
-    for k in 0..pairs {
-        let i = quotient(k, c.right_edges);
-        let j = remainder(k, c.right_edges);
-        if is_match(&left, i, &right, j) && COMPARISON_LIMIT < plus(entry(l, i), entry(r, j)) {
-            return true;
+impl Both<'_> {
+    // Two edges match if their channels have one name.
+    pub fn is_match(&self, e: &Edge, f: &Edge) -> bool {
+        match self.two.right_step(channel_of(e)) {
+            Some(c) => c == channel_of(f),
+            None => false,
         }
     }
-    false
-}
 
-// Whether a pair of n left and m right locations has too many in its two invariants.
-fn has_long_invariant(l: &[usize], n: usize, r: &[usize], m: usize) -> bool {
-    let pairs = times(n, m);
-    for k in 0..pairs {
-        if COMPARISON_LIMIT < plus(entry(l, quotient(k, m)), entry(r, remainder(k, m))) {
-            return true;
+    // How many edges of the right match an edge of the left.
+    fn matches(&self, e: &Edge) -> usize {
+        self.right
+            .edges
+            .iter()
+            .take(self.right.edge_count)
+            .filter(|f| self.is_match(e, f))
+            .count()
+    }
+
+    fn has_right_match(&self, e: &Edge) -> bool {
+        self.right
+            .edges
+            .iter()
+            .take(self.right.edge_count)
+            .any(|f| self.is_match(e, f))
+    }
+
+    fn has_left_match(&self, f: &Edge) -> bool {
+        self.left
+            .edges
+            .iter()
+            .take(self.left.edge_count)
+            .any(|e| self.is_match(e, f))
+    }
+
+    // The number of matching pairs.
+    fn edges(&self) -> usize {
+        let mut n = 0;
+        for e in self.left.edges.iter().take(self.left.edge_count) {
+            n = plus(n, self.matches(e));
         }
+        n
     }
-    false
-}
 
-fn has_long_constraint(l: Text, r: Text, c: Channels) -> bool {
-    let left = invariants(l);
-    let right = invariants(r);
-    if has_long_invariant(&left, l.location_count, &right, r.location_count) {
-        return true;
+    // Whether an edge of the left and one that matches it have too many comparisons in their guards.
+    fn has_long_guard(&self, e: &Edge) -> bool {
+        self.right
+            .edges
+            .iter()
+            .take(self.right.edge_count)
+            .any(|f| self.is_match(e, f) && are_long(&e.guard, &f.guard))
     }
-    let ours = guards(l);
-    let theirs = guards(r);
-    has_long_guard(c, &ours, &theirs)
-}
 
-// Whether the other text has an edge of the channel.
-fn is_among(others: &[usize], c: usize) -> bool {
-    for j in 0..others.len() {
-        if c != NOWHERE && c == others[j] {
-            return true;
-        }
+    // Whether a location of the left and one of the right have too many in their invariants.
+    fn has_long_invariant(&self, l: &Location) -> bool {
+        self.right
+            .locations
+            .iter()
+            .take(self.right.location_count)
+            .any(|m| are_long(&l.invariant, &m.invariant))
     }
-    false
-}
 
-// The value that an edge sets the clock to, which is the only one that is written (SPECIFICATION 18.5); m if that is
-// larger.
-fn largest_assigned(e: Edge, clock: usize, m: usize) -> usize {
-    if clock < CLOCK_LIMIT {
-        let a = e.assignments[clock];
-        if a.made && m < medium(a.value) {
-            return medium(a.value);
-        }
+    fn has_long_constraint(&self) -> bool {
+        let mut locations = self.left.locations.iter().take(self.left.location_count);
+        let mut edges = self.left.edges.iter().take(self.left.edge_count);
+        locations.any(|l| self.has_long_invariant(l)) || edges.any(|e| self.has_long_guard(e))
     }
-    m
-}
 
-// The number of values of a clock by the constants that are written: those of all invariants, and those of the guards
-// and assignments of edges that match one.
-fn range_of(t: Text, own: &[usize], others: &[usize], clock: usize) -> usize {
-    let mut m = largest_in_invariants(t, clock);
-    for i in 0..EDGE_LIMIT {
-        if is_among(others, entry(own, i)) {
-            let e = t.edges[i];
-            let g = e.guard;
-            m = largest_assigned(e, clock, largest_in(g, clock, m));
-        }
+    // Whether an edge of the joined text sets a clock to another value than 0: a caller counts such texts.
+    pub fn joins_late(&self) -> bool {
+        let mut left = self.left.edges.iter().take(self.left.edge_count);
+        let mut right = self.right.edges.iter().take(self.right.edge_count);
+        left.any(|e| sets_late(e) && self.has_right_match(e))
+            || right.any(|f| sets_late(f) && self.has_left_match(f))
     }
-    plus(m, PAST_LARGEST)
-}
 
-// Whether an edge that matches one of the other text sets a clock to another value than 0.
-fn has_late_match(t: Text, own: &[usize], others: &[usize]) -> bool {
-    for i in 0..EDGE_LIMIT {
-        if is_among(others, entry(own, i)) {
-            let e = t.edges[i];
-            if sets_late(e) {
-                return true;
-            }
-        }
+    pub fn locations(&self) -> usize {
+        times(self.left.location_count, self.right.location_count)
     }
-    false
-}
 
-// Whether an edge of the joined text sets a clock to another value than 0: a caller counts such texts.
-pub fn joins_late(l: Text, r: Text, c: Channels) -> bool {
-    let left = c.left;
-    let right = c.right;
-    has_late_match(l, &left, &right) || has_late_match(r, &right, &left)
-}
-
-// The product of the numbers of values of a text's clocks.
-fn values_of(t: Text, own: &[usize], others: &[usize]) -> usize {
-    let mut n: usize = 1;
-    for clock in 0..CLOCK_LIMIT {
-        if clock < t.clock_count {
-            n = times(n, range_of(t, own, others, clock));
-        }
+    pub fn clocks(&self) -> usize {
+        plus(self.left.clock_count, self.right.clock_count)
     }
-    n
-}
 
-pub fn locations_of(l: Text, r: Text) -> usize {
-    times(l.location_count, r.location_count)
-}
-
-pub fn clocks_of(l: Text, r: Text) -> usize {
-    plus(l.clock_count, r.clock_count)
-}
-
-// The number of states of the joined text of two texts that have few enough clocks and locations.
-pub fn states_of(l: Text, r: Text, c: Channels) -> usize {
-    let left = c.left;
-    let right = c.right;
-    let values = times(values_of(l, &left, &right), values_of(r, &right, &left));
-    times(locations_of(l, r), values)
-}
-
-// Whether the joined text passes a limit, but for that on its bytes: texts of this test are far from that one.
-pub fn passes_limit(l: Text, r: Text, c: Channels) -> bool {
-    if CLOCK_LIMIT < clocks_of(l, r) || LOCATION_LIMIT < locations_of(l, r) {
-        return true;
+    // The number of states of the joined text of two texts that have few enough clocks and locations.
+    pub fn states(&self) -> usize {
+        let left = values_of(self.left, |e| self.has_right_match(e));
+        let right = values_of(self.right, |f| self.has_left_match(f));
+        times(self.locations(), times(left, right))
     }
-    if EDGE_LIMIT < matches(c) {
-        return true;
+
+    // Whether the joined text passes a limit, but for that on its bytes: texts of this test are far from that one.
+    pub fn passes_limit(&self) -> bool {
+        CLOCK_LIMIT < self.clocks()
+            || LOCATION_LIMIT < self.locations()
+            || EDGE_LIMIT < self.edges()
+            || self.has_long_constraint()
+            || STATE_LIMIT < self.states()
     }
-    if has_long_constraint(l, r, c) {
-        return true;
-    }
-    STATE_LIMIT < states_of(l, r, c)
 }

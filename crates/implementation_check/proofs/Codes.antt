@@ -1,26 +1,24 @@
 -- Reading gives none of the codes after 11 but 24: 22 and 23 are the check's own. What is read of a text before its
 -- states are judged gives none after 8 but 24: 9 to 11 are the judgement's own.
-use Rattle.std.specs.Prelude.{◌≡◌, Bool, cond, List, ℕ, ◌≤◌, ◌<◌, ltb, length}
+use Rattle.std.specs.Prelude.{◌≡◌, Bool, if◌then◌else◌, List, ℕ, ◌≤◌, ◌<◌, nat_lt, length, Result, Ok, Err, ⊤}
 use Rattle.std.proofs.Math.Path.{refl, subst}
 use Rattle.std.proofs.Common.{ap, arith}
 use Rattle.std.proofs.Math.Bool.{true, false}
 use Rattle.limits.specs.Limits.{largest_text, tick_allowed}
 use Rattle.refusals.specs.declared.Refusal.{Refusal}
-use Rattle.refusals.specs.Refusals.{tick_out_of_range}
-use Rattle.refusals.specs.declared.Verdict.{Verdict}
-use Rattle.refusals.specs.declared.Verdict.TheVariants.{Accepted, Refused}
+use Rattle.refusals.specs.declared.Refusal.TheVariants.{TickOutOfRange}
+use Rattle.refusals.specs.Refusals.{code}
+use Rattle.refusals.specs.Answers.{answer_of}
 use Rattle.reader_record.specs.declared.Text.{Text}
-use Rattle.reader_parts.specs.declared.Status.{Status}
-use Rattle.reader_parts.specs.declared.Status.TheVariants as status
 use Rattle.reader_parts.specs.declared.Fault.{Fault}
 use Rattle.reader_parts.specs.declared.Fault.TheVariants.{TooLong, Misfit, NameTooLong, Declared, Unknown, TooLarge, TooManyItems, OtherMark}
-use Rattle.reader.specs.declared.Parsed.{Parsed}
 use Rattle.reader.specs.Faults.{refusal_of}
 use Rattle.reader.specs.Reading as reader
-use Rattle.clocks.specs.declared.Judged.{Judged}
-use Rattle.clocks.specs.declared.Judged.TheVariants.{Clean, TooManyStates, NoMove, TwoEdges}
+use Rattle.clocks.specs.declared.Flaw.{Flaw}
+use Rattle.clocks.specs.declared.Flaw.TheVariants.{TooManyStates, NoMove, TwoEdges}
 use Rattle.clocks.specs.States.{judgement}
-use Rattle.clocks_read.specs.Reading.{refused, judged_reading, parsed_reading, read_outcome}
+use Rattle.clocks_read.specs.declared.Reading.{Reading}
+use Rattle.clocks_read.specs.Reading.{judged_reading, parsed_reading, read_outcome}
 
 -- the last code of reading tokens, the last code of a text, and the code of the tick length
 abbrev pub last_token_code : ℕ
@@ -30,7 +28,7 @@ abbrev pub last_code : ℕ
 last_code = 11
 
 abbrev pub tick_code : ℕ
-tick_code = (tick_out_of_range 0).code
+tick_code = code (TickOutOfRange 0)
 
 -- a code up to n, or 24, by whether the tick length is allowed
 abbrev pub CodeUpTo : ℕ → Bool → ℕ → Type 0
@@ -42,24 +40,24 @@ abbrev pub CodeAt : Bool → ℕ → Type 0
 CodeAt b c = CodeUpTo last_code b c
 
 -- so a refusal f with a later code is none of them
-pub too_late : (n : ℕ) (b : Bool) (f r : Refusal) → Refused f ≡ Refused r → n < f.code → f.code < tick_code
-    → CodeUpTo n b r.code → ⊥
+pub too_late : (n : ℕ) (b : Bool) (f r : Refusal) → ◌≡◌ {A = Result ⊤ Refusal} (Err f) (Err r) → n < code f → code f < tick_code
+    → CodeUpTo n b (code r) → ⊥
 too_late n b f r e h k = go b
   where
-    same : f.code ≡ r.code
-    same = let z : f ≡ r = cc in ap (λ (x : Refusal). x.code) z
+    same : code f ≡ code r
+    same = let z : f ≡ r = cc in ap code z
 
-    go : (b : Bool) → CodeUpTo n b r.code → ⊥
+    go : (b : Bool) → CodeUpTo n b (code r) → ⊥
     go true l = omega (arith, l, same)
     go false l = omega (arith, l, same)
 
 -- an answer with such a code, or with none where the tick length is allowed
-unfoldable Early : ℕ → Bool → Verdict → Type 0
-Early n true Accepted = Unit {0}
-Early n false Accepted = ⊥
-Early n b (Refused f) = CodeUpTo n b f.code
+unfoldable Early : ℕ → Bool → Result ⊤ Refusal → Type 0
+Early n true (Ok done) = Unit {0}
+Early n false (Ok done) = ⊥
+Early n b (Err f) = CodeUpTo n b (code f)
 
-refusal_early : (f : Fault) → (refusal_of f).code ≤ last_token_code
+refusal_early : (f : Fault) → code (refusal_of f) ≤ last_token_code
 unfolding refusal_of
 refusal_early TooLong = omega arith
 refusal_early (Misfit place) = omega arith
@@ -70,50 +68,49 @@ refusal_early (TooLarge place) = omega arith
 refusal_early (TooManyItems place) = omega arith
 refusal_early (OtherMark place) = omega arith
 
-judged_early : (j : Judged) (t : Text) → Early last_code true (judged_reading j t).answer
-unfolding Early judged_reading refused
-judged_early Clean t = tt
-judged_early (TooManyStates n) t = omega arith
-judged_early (NoMove s c) t = omega arith
-judged_early (TwoEdges s c) t = omega arith
+judged_early : (j : Result ⊤ Flaw) (t : Text) → Early last_code true (answer_of (judged_reading j t))
+unfolding Early judged_reading
+judged_early (Ok clean) t = tt
+judged_early (Err (TooManyStates n)) t = omega arith
+judged_early (Err (NoMove s c)) t = omega arith
+judged_early (Err (TwoEdges s c)) t = omega arith
 
-parsed_early : (b : Bool) (v : Verdict) (t : Text) → Early last_token_code b v
-    → Early last_code b (parsed_reading v t).answer
-unfolding parsed_reading refused Early
-parsed_early true Accepted t e = judged_early (judgement t) t
-parsed_early false Accepted t e = absurd e
-parsed_early true (Refused f) t e = omega (arith, e)
-parsed_early false (Refused f) t e = e
+parsed_early : (b : Bool) (r : Result Text Refusal) → Early last_token_code b (answer_of r)
+    → Early last_code b (answer_of (parsed_reading r))
+unfolding parsed_reading Early
+parsed_early true (Ok t) e = judged_early (judgement t) t
+parsed_early false (Ok t) e = absurd e
+parsed_early true (Err f) e = omega (arith, e)
+parsed_early false (Err f) e = e
 
 module _ (period : ℕ) where
-  text_early : (s : List ℕ) → Early last_token_code (tick_allowed period) (reader.read_text period s).answer
+  text_early : (s : List ℕ) → Early last_token_code (tick_allowed period) (answer_of (reader.read_text period s))
   unfolding reader.read_text
-  text_early s = judged (tick_allowed period) (ltb largest_text (length s))
+  text_early s = judged (tick_allowed period) (nat_lt largest_text (length s))
     where
-      whole : Parsed
-      whole = reader.answer (reader.read_whole period s).status (reader.read_whole period s).text
+      read : Result Text Refusal
+      read = reader.answer (reader.read_whole period s)
 
-      answered : (q : Status) (t : Text) → Early last_token_code true (reader.answer q t).answer
-      answered (status.At p) t = unfold Early reader.answer in tt
-      answered (status.Refused f) t = unfold Early reader.answer reader.refused in refusal_early f
+      answered : (r : Result Text Fault) → Early last_token_code true (answer_of (reader.judged r))
+      answered (Ok t) = unfold Early in tt
+      answered (Err f) = unfold Early in refusal_early f
 
       judged : (a b : Bool) → Early last_token_code a
-          (cond a (cond b (reader.refused TooLong) whole) (reader.refused_by (tick_out_of_range period))).answer
-      judged true true = unfold Early reader.refused in refusal_early TooLong
-      judged true false = answered (reader.read_whole period s).status (reader.read_whole period s).text
+          (answer_of (if a then (if b then Err (refusal_of TooLong) else read) else Err (TickOutOfRange period)))
+      judged true true = unfold Early in refusal_early TooLong
+      judged true false = answered (reader.text_of (reader.read_whole period s))
       judged false b = unfold Early in refl
 
   -- the code of a refusal before the states are judged
-  pub token_codes : (s : List ℕ) (f : Refusal) → (reader.read_text period s).answer ≡ Refused f
-      → CodeUpTo last_token_code (tick_allowed period) f.code
+  pub token_codes : (s : List ℕ) (f : Refusal) → answer_of (reader.read_text period s) ≡ Err f
+      → CodeUpTo last_token_code (tick_allowed period) (code f)
   unfolding Early
   token_codes s f e = subst (Early last_token_code (tick_allowed period)) e (text_early s)
 
   -- the code of a refusal of reading
-  pub reading_codes : (s : List ℕ) (f : Refusal) → (read_outcome period s).answer ≡ Refused f
-      → CodeAt (tick_allowed period) f.code
+  pub reading_codes : (s : List ℕ) (f : Refusal) → answer_of (read_outcome period s) ≡ Err f
+      → CodeAt (tick_allowed period) (code f)
   unfolding read_outcome Early
   reading_codes s f e =
       subst (Early last_code (tick_allowed period)) e
-      (parsed_early (tick_allowed period) (reader.read_text period s).answer (reader.read_text period s).text
-      (text_early s))
+      (parsed_early (tick_allowed period) (reader.read_text period s) (text_early s))

@@ -18,7 +18,6 @@ use Rattle.reader_record.specs.Formed.{WellFormed}
 use Rattle.clocks.specs.declared.Config.{Config}
 use Rattle.clocks.specs.declared.Moves.TheVariants.{One}
 use Rattle.clocks.specs.Meaning.{moves, start_of, led, stands}
-use Rattle.clocks.specs.States.{input}
 use Rattle.clocks.specs.Accepted.{Accepted}
 use Rattle.clocks.proofs.Standing.{led_one, stands_location, moves_stand, moves_known, start_stands}
 use Rattle.clocks.proofs.Contract.{signature, uncapped, system, capping}

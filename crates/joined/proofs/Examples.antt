@@ -1,5 +1,5 @@
 -- Posts joined (SPECIFICATION 16.1, 18), computed from their records.
-use Rattle.std.specs.Prelude.{◌≡◌, refl, true, false, List, [], ◌∷◌, ℕ, ◌*◌, T, take}
+use Rattle.std.specs.Prelude.{◌≡◌, refl, true, false, List, [], ◌∷◌, ℕ, ◌*◌, T, take, Ok}
 use Rattle.std.proofs.Common.{ap, subst}
 use Rattle.limits.specs.Limits.{shortest_tick}
 use Rattle.systems.specs.Tests.{all, any}
@@ -18,9 +18,8 @@ use Rattle.reader_record.specs.declared.Text.{Text}
 use Rattle.reader_record.specs.Record.{no_name, no_assignment, written_once, direction_of, assignment, edge, channel}
 use Rattle.reader_constraints.specs.Constraints.{blank_constraint}
 use Rattle.reader_lists.specs.State.{blank_edge}
-use Rattle.refusals.specs.declared.Verdict.TheVariants as verdict_of
-use Rattle.reader.specs.declared.Parsed.{Parsed}
-use Rattle.reader.specs.Reading.{read_text}
+use Rattle.refusals.specs.Answers.{answer_of}
+use Rattle.reader.specs.Reading.{record_of, read_text}
 use Rattle.reader_formed.proofs.Formed.{read_formed}
 use Rattle.reader_examples.specs.Texts.{post, rearm, overridden, idle}
 use Rattle.reader_examples.specs.Records.{set_to, post_record, rearm_record, overridden_record, idle_record}
@@ -30,10 +29,8 @@ use Rattle.reader_record.specs.Formed.{WellFormed}
 use Rattle.clocks.specs.Meaning.{clock_value, compares, met, holds, invariant, assigned, after, equal_config, one_if, also, gives, edge_move, edge_moves, ticked, tick_move, moves, start_of}
 use Rattle.clocks.specs.States.{most, constant_for, largest_in, largest_at, largest, values, ranges, state_count, cap, state, config, leads, state_moves, next, state_invariant, start_state, is_input, input, too_many, or_else, first_fault, fault, step_fault, state_fault, states_judged, judgement}
 use Rattle.clocks.specs.Accepted.{Accepted}
-use Rattle.pairing.specs.declared.Matched.TheVariants.{Equal as EqualTexts}
 use Rattle.pairing.specs.Channels.{WellNamed, EqualChannels, alike, first_from, lowest, partner, agree, matched, first_unmatched, verdict, unmatched, right_step}
 use Rattle.pairing.specs.Equal.{read_named, equal_when_nothing}
-use Rattle.clocks.specs.declared.Judged.TheVariants.{Clean}
 use Rattle.joined.specs.Joined.{pair, shifted, both_constraints, both_assignments, matching, joined_location, joined_edge, paired_with, paired, has_channel, joined_channel, joined_text, few, counts_fit}
 use Rattle.joined.proofs.Conjunction.{ConjunctionOf}
 use Rattle.joined.proofs.Results.{texts_conjunction}
@@ -124,7 +121,7 @@ pub post_rearm_states : state_count post_rearm ≡ 100
 unfolding opened
 post_rearm_states = refl
 
-pub post_rearm_judged : judgement post_rearm ≡ Clean
+pub post_rearm_judged : judgement post_rearm ≡ Ok tt
 unfolding opened
 post_rearm_judged = refl
 
@@ -137,7 +134,7 @@ pub post_idle_late : direction_of (joined_text to_idle post_record idle_record) 
 unfolding opened
 post_idle_late = refl
 
-pub post_idle_judged : judgement (joined_text to_idle post_record idle_record) ≡ Clean
+pub post_idle_judged : judgement (joined_text to_idle post_record idle_record) ≡ Ok tt
 unfolding opened
 post_idle_judged = refl
 
@@ -206,14 +203,14 @@ four_clocks = refl
 -- the hypotheses can be met: Post and Rearm are accepted and have equal channels, so what is said of joined records
 -- holds of theirs
 module _ (s : List ℕ) (t : Text) (e : ReadsTo s t) where
-  pub read_answer : (read_text shortest_tick s).answer ≡ verdict_of.Accepted
-  read_answer = ap (λ (p : Parsed). p.answer) e
+  pub read_answer : answer_of (read_text shortest_tick s) ≡ Ok tt
+  read_answer = ap answer_of e
 
   pub formed_record : WellFormed t
-  formed_record = subst WellFormed (ap (λ (p : Parsed). p.text) e) (read_formed shortest_tick s read_answer)
+  formed_record = subst WellFormed (ap record_of e) (read_formed shortest_tick s read_answer)
 
   pub named_record : WellNamed s t
-  named_record = subst (WellNamed s) (ap (λ (p : Parsed). p.text) e) (read_named shortest_tick s read_answer)
+  named_record = subst (WellNamed s) (ap record_of e) (read_named shortest_tick s read_answer)
 
 pub post_accepted : Accepted post_record
 unfolding opened
@@ -223,7 +220,7 @@ pub rearm_accepted : Accepted rearm_record
 unfolding opened
 rearm_accepted = record { formed = formed_record rearm rearm_record rearm_read; clean = refl }
 
-nothing_unmatched : unmatched post post_record rearm rearm_record ≡ EqualTexts
+nothing_unmatched : unmatched post post_record rearm rearm_record ≡ Ok tt
 unfolding opened
 nothing_unmatched = refl
 

@@ -1,12 +1,12 @@
 -- The text that is written for two accepted texts with equal channels is accepted, has equal channels with both, and is
 -- satisfied by exactly the implementations that satisfy both (SPECIFICATION 17.10).
-use Rattle.std.specs.Prelude.{◌≡◌, List, [], ℕ, ◌-◌, ◌≤◌, ◌<◌, T, length, get_or}
+use Rattle.std.specs.Prelude.{◌≡◌, List, [], ℕ, ◌-◌, ◌≤◌, ◌<◌, T, length, get_or, Ok}
 use Rattle.std.proofs.Common.{sym, subst, ◌∙◌, arith}
 use Rattle.limits.specs.Limits.{shortest_tick, largest_text, state_limit}
-use Rattle.refusals.specs.declared.Verdict.TheVariants as verdict
+use Rattle.refusals.specs.Answers.{answer_of}
 use Rattle.reader_record.specs.declared.Text.{Text}
 use Rattle.reader_record.specs.Formed.{WellFormed}
-use Rattle.reader.specs.Reading.{read_text}
+use Rattle.reader.specs.Reading.{record_of, read_text}
 use Rattle.reader_formed.specs.Promise.{channel_name}
 use Rattle.reader_formed.proofs.Formed.{read_formed}
 use Rattle.clocks.specs.States.{state_count, input}
@@ -69,16 +69,16 @@ through z x s l u r h k = record {
   right = λ c m. let i = k.right c m in through_shared i (h.right i.other i.there);
 }
 
-module _ (period : ℕ) (s u : List ℕ) (left_read : (read_text period s).answer ≡ verdict.Accepted)
-    (right_read : (read_text period u).answer ≡ verdict.Accepted) (a : Accepted (read_text period s).text)
-    (b : Accepted (read_text period u).text)
-    (equal : EqualChannels s (read_text period s).text u (read_text period u).text) where
+module _ (period : ℕ) (s u : List ℕ) (left_read : answer_of (read_text period s) ≡ Ok tt)
+    (right_read : answer_of (read_text period u) ≡ Ok tt) (a : Accepted (record_of (read_text period s)))
+    (b : Accepted (record_of (read_text period u)))
+    (equal : EqualChannels s (record_of (read_text period s)) u (record_of (read_text period u))) where
   -- the two records, the steps of the second by those of the first, and the names of the channels
   abbrev L : Text
-  L = (read_text period s).text
+  L = record_of (read_text period s)
 
   abbrev R : Text
-  R = (read_text period u).text
+  R = record_of (read_text period u)
 
   abbrev step : ℕ → ℕ
   step = right_step s L u R
@@ -95,7 +95,7 @@ module _ (period : ℕ) (s u : List ℕ) (left_read : (read_text period s).answe
     z = written_text words (joined_text step L R)
 
     abbrev x : Text
-    x = (read_text shortest_tick z).text
+    x = record_of (read_text shortest_tick z)
 
     formed : WellFormed (joined_text step L R)
     formed = text_formed step L R a.formed b.formed fit
@@ -134,8 +134,8 @@ module _ (period : ℕ) (s u : List ℕ) (left_read : (read_text period s).answe
     }
 
 -- the texts s and u, whose records l and r are accepted and have equal channels; z is the text that is written for them
-module _ (period : ℕ) (s u : List ℕ) (left_read : (read_text period s).answer ≡ verdict.Accepted)
-    (right_read : (read_text period u).answer ≡ verdict.Accepted) where
+module _ (period : ℕ) (s u : List ℕ) (left_read : answer_of (read_text period s) ≡ Ok tt)
+    (right_read : answer_of (read_text period u) ≡ Ok tt) where
   abbrev joined_bytes : Text → Text → List ℕ
   joined_bytes l r = written_text (channel_spellings s l) (joined_text (right_step s l u r) l r)
 
@@ -145,15 +145,15 @@ module _ (period : ℕ) (s u : List ℕ) (left_read : (read_text period s).answe
       → T (counts_fit (joined_text (right_step s l u r) l r))
       → state_count (joined_text (right_step s l u r) l r) ≤ state_limit
       → length (joined_bytes l r) ≤ largest_text
-      → ((read_text shortest_tick (joined_bytes l r)).answer ≡ verdict.Accepted)
-      × JoinsTexts s u (joined_bytes l r) l r (read_text shortest_tick (joined_bytes l r)).text a b
+      → (answer_of (read_text shortest_tick (joined_bytes l r)) ≡ Ok tt)
+      × JoinsTexts s u (joined_bytes l r) l r (record_of (read_text shortest_tick (joined_bytes l r))) a b
 
-  read_joins : WrittenJoins (read_text period s).text (read_text period u).text
+  read_joins : WrittenJoins (record_of (read_text period s)) (record_of (read_text period u))
   read_joins a b equal fit few short = (
     (back period s u left_read right_read a b equal fit few short).accepted_is,
     text_joins period s u left_read right_read a b equal fit few short,
   )
 
-  pub written_joins : (l r : Text) → (read_text period s).text ≡ l → (read_text period u).text ≡ r → WrittenJoins l r
+  pub written_joins : (l r : Text) → record_of (read_text period s) ≡ l → record_of (read_text period u) ≡ r → WrittenJoins l r
   written_joins l r p q = subst (λ (t : Text). WrittenJoins t r) p
-      (subst (λ (t : Text). WrittenJoins (read_text period s).text t) q read_joins)
+      (subst (λ (t : Text). WrittenJoins (record_of (read_text period s)) t) q read_joins)

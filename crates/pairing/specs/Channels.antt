@@ -1,15 +1,15 @@
 -- The channels of two texts: which of them belong together, and code 12 (SPECIFICATION 9.1, 9.2).
-use Rattle.std.specs.Prelude.{◌≡◌, Bool, false, cond, not, ◌&&◌, List, ℕ, zero, suc, ◌+◌, ◌-◌, ◌≤◌, ◌<◌, eqb, leb, ltb, take, drop}
-use Rattle.refusals.specs.Refusals.{left_file, right_file, unmatched_channel}
+use Rattle.std.specs.Prelude.{◌≡◌, Bool, false, cond, not, ◌&&◌, List, ℕ, zero, suc, ◌+◌, ◌-◌, ◌≤◌, ◌<◌, eqb, leb, ltb, take, drop, Result, Ok, Err, ⊤}
+use Rattle.std.specs.Result.{result_and}
+use Rattle.refusals.specs.declared.File.TheVariants.{Left, Right}
+use Rattle.refusals.specs.declared.Refusal.{Refusal}
+use Rattle.refusals.specs.declared.Refusal.TheVariants.{UnmatchedChannel}
 use Rattle.reader_tokens.specs.Scan.{same}
 use Rattle.reader_record.specs.declared.Name.{Name}
 use Rattle.reader_record.specs.declared.Text.{Text}
 use Rattle.reader_formed.specs.Promise.{channel_name, NamesWithin, NamesDiffer}
 use Rattle.bitmaps.specs.Bits.{tab_from}
 use Rattle.clocks.specs.States.{input}
-use Rattle.pairing.specs.declared.Matched.{Matched}
-use Rattle.pairing.specs.declared.Matched.TheVariants.{Equal, Unmatched}
-use Rattle.pairing.specs.declared.Pairing.{Pairing}
 use Rattle.limits.specs.Limits.{channel_limit, step_limit}
 
 -- what reading promises of the names of a text
@@ -74,13 +74,13 @@ unfoldable pub first_unmatched : List ℕ → Text → List ℕ → Text → ℕ
 first_unmatched s l u r = lowest (λ c. not (matched s l u r c)) l.channel_count
 
 -- code 12: the left file first, then the right (SPECIFICATION 9.1, 13.2)
-unfoldable pub verdict : ℕ → ℕ → Matched
+unfoldable pub verdict : ℕ → ℕ → Result ⊤ Refusal
 verdict c d =
     cond (eqb c 0)
-    (cond (eqb d 0) Equal (Unmatched (unmatched_channel right_file d)))
-    (Unmatched (unmatched_channel left_file c))
+    (cond (eqb d 0) (Ok tt) (Err (UnmatchedChannel Right d)))
+    (Err (UnmatchedChannel Left c))
 
-unfoldable pub unmatched : List ℕ → Text → List ℕ → Text → Matched
+unfoldable pub unmatched : List ℕ → Text → List ℕ → Text → Result ⊤ Refusal
 unmatched s l u r = verdict (first_unmatched s l u r) (first_unmatched u r s l)
 
 -- the right's number of the left's step c: the tick is the tick, a channel its partner; 0 where the left has no such
@@ -88,5 +88,6 @@ unmatched s l u r = verdict (first_unmatched s l u r) (first_unmatched u r s l)
 unfoldable pub right_step : List ℕ → Text → List ℕ → Text → ℕ → ℕ
 right_step s l u r c = cond (ltb 0 c && leb c l.channel_count) (partner s (name_of l c) u r) 0
 
-unfoldable pub pairing : List ℕ → Text → List ℕ → Text → Pairing
-pairing s l u r = record { answer = unmatched s l u r; map = tab_from (right_step s l u r) 0 step_limit }
+-- the right's numbers of the left's steps where the channels are equal, else code 12 (SPECIFICATION 9.1, 9.2)
+unfoldable pub pairing : List ℕ → Text → List ℕ → Text → Result (List ℕ) Refusal
+pairing s l u r = result_and (unmatched s l u r) (Ok (tab_from (right_step s l u r) 0 step_limit))

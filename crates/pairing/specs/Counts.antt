@@ -1,9 +1,8 @@
 -- Two texts with equal channels have equally many.
-use Rattle.std.specs.Prelude.{◌≡◌, cond, List, ℕ, zero, suc, ◌+◌, ◌-◌, ◌≤◌, ◌<◌, eqb}
+use Rattle.std.specs.Prelude.{◌≡◌, cond, List, ℕ, zero, suc, ◌+◌, ◌-◌, ◌≤◌, ◌<◌, eqb, Ok}
 use Rattle.std.proofs.Common.{sym, ◌∙◌, not-suc-le-zero, arith, eq-eqb, ne_eqb}
 use Rattle.reader_record.specs.declared.Text.{Text}
 use Rattle.reader_formed.proofs.Cases.{when_equal}
-use Rattle.pairing.specs.declared.Matched.TheVariants.{Equal}
 use Rattle.pairing.specs.Channels.{Channel, EqualChannels, unmatched, right_step, WellNamed}
 use Rattle.pairing.specs.Equal.{equal_when_nothing, step_there, step_injective}
 
@@ -76,7 +75,7 @@ no_fewer s l u r wl wr h =
         omega (arith, step_injective s l u r wl wr h (i + 1) (j + 1) (nth l i k) (nth l j m) q)
 
 pub equally_many : (s : List ℕ) (l : Text) (u : List ℕ) (r : Text) → WellNamed s l → WellNamed u r
-    → unmatched s l u r ≡ Equal → l.channel_count ≡ r.channel_count
+    → unmatched s l u r ≡ Ok tt → l.channel_count ≡ r.channel_count
 equally_many s l u r wl wr e =
     let h = equal_when_nothing s l u r wl wr e in
     omega (

@@ -1,24 +1,23 @@
 -- The judgement finds nothing exactly where the texts have equal channels, and the steps then pair up one to one.
-use Rattle.std.specs.Prelude.{◌≡◌, refl, Bool, true, false, List, ℕ, ◌-◌, ◌<◌, eqb}
+use Rattle.std.specs.Prelude.{Result, Ok, Err, ⊤, ◌≡◌, refl, Bool, true, false, List, ℕ, ◌-◌, ◌<◌, eqb}
 use Rattle.std.proofs.Common.{sym, ap, subst, ◌∙◌, arith}
 use Rattle.std.proofs.Math.Bool.{not}
 use borrow.Author.Tests.{eqb-true, not-true, not-false}
 use Rattle.reader_record.specs.declared.Text.{Text}
-use Rattle.refusals.specs.declared.Verdict.TheVariants.{Accepted}
-use Rattle.reader.specs.Reading.{read_text}
+use Rattle.refusals.specs.Answers.{answer_of}
+use Rattle.refusals.specs.declared.Refusal.{Refusal}
+use Rattle.reader.specs.Reading.{record_of, read_text}
 use Rattle.reader_formed.specs.Promise.{Within, Unlike}
 use Rattle.reader_formed.proofs.Formed.{read_names, read_differ}
 use Rattle.reader_formed.proofs.Cases.{split, when_equal, never}
 use Rattle.clocks.specs.States.{input}
-use Rattle.pairing.specs.declared.Matched.{Matched}
-use Rattle.pairing.specs.declared.Matched.TheVariants.{Equal, Unmatched}
 use Rattle.pairing.specs.Channels.{Channel, name_of, spelling, Shared, EqualChannels, alike, partner, agree, matched, first_unmatched, verdict, unmatched, right_step, WellNamed}
 use Rattle.pairing.specs.Lowest.{lowest_none, lowest_found, lowest_some}
 use Rattle.pairing.specs.Laws.{matched_none, matched_some, step_none, step_in}
 use Rattle.pairing.specs.Spelled.{alike_spelled, spelled_alike}
 
-pub read_named : (period : ℕ) (s : List ℕ) → (read_text period s).answer ≡ Accepted
-    → WellNamed s (read_text period s).text
+pub read_named : (period : ℕ) (s : List ℕ) → answer_of (read_text period s) ≡ Ok tt
+    → WellNamed s (record_of (read_text period s))
 read_named period s e = record { within = read_names period s e; differ = read_differ period s e }
 
 name_within : (s : List ℕ) (t : Text) → WellNamed s t → (c : ℕ) → Channel t c → Within s (name_of t c)
@@ -123,9 +122,9 @@ module _ (s : List ℕ) (l : Text) (u : List ℕ) (r : Text) where
         ∙ not-true (matched s l u r (first_unmatched s l u r)) i.passes))
 
 -- the verdict of the two searches
-abbrev IsEqual : Matched → Type 0
-IsEqual Equal = Unit {0}
-IsEqual (Unmatched f) = ⊥
+abbrev IsEqual : Result ⊤ Refusal → Type 0
+IsEqual (Ok x) = Unit {0}
+IsEqual (Err f) = ⊥
 
 verdict_zeros : (c d : ℕ) → IsEqual (verdict c d) → (c ≡ 0) × (d ≡ 0)
 unfolding verdict
@@ -134,11 +133,11 @@ verdict_zeros c d =
     (λ e. split P (eqb d 0) (λ f _. (eqb-true c 0 e, eqb-true d 0 f)) (λ _ z. absurd z))
     (λ _ z. absurd z)
   where
-    P : Matched → Type 0
+    P : Result ⊤ Refusal → Type 0
     P m = IsEqual m → (c ≡ 0) × (d ≡ 0)
 
 module _ (s : List ℕ) (l : Text) (u : List ℕ) (r : Text) (wl : WellNamed s l) (wr : WellNamed u r) where
-  pub equal_when_nothing : unmatched s l u r ≡ Equal → EqualChannels s l u r
+  pub equal_when_nothing : unmatched s l u r ≡ Ok tt → EqualChannels s l u r
   unfolding unmatched
   equal_when_nothing e =
       let z = verdict_zeros (first_unmatched s l u r) (first_unmatched u r s l) (subst IsEqual (sym e) tt) in
@@ -147,7 +146,7 @@ module _ (s : List ℕ) (l : Text) (u : List ℕ) (r : Text) (wl : WellNamed s l
         right = λ d k. none_unmatched u r s l wr wl z.1 d k;
       }
 
-  pub nothing_when_equal : EqualChannels s l u r → unmatched s l u r ≡ Equal
+  pub nothing_when_equal : EqualChannels s l u r → unmatched s l u r ≡ Ok tt
   unfolding unmatched verdict
   nothing_when_equal h = rw (all_shared s l u r wl wr h.left, all_shared u r s l wr wl h.right)
 

@@ -11,22 +11,7 @@ ghost use Rattle.limits.specs.Limits.{channel_limit, step_limit};
 
 use limits::{CHANNEL_LIMIT, STEP_LIMIT};
 use reader_record::{Channel, Name, Text};
-use refusals::Refusal;
-
-// Whether the channels are equal, or code 12 (SPECIFICATION 9.1).
-#[derive(Clone, Copy)]
-pub enum Matched {
-    Equal,
-    Unmatched(Refusal),
-}
-
-// `map` has the right's number of each step of the left: the tick is the tick, a channel the one of the same name, and 0
-// stands where there is none.
-#[derive(Clone, Copy)]
-pub struct Pairing {
-    pub answer: Matched,
-    pub map: [usize; STEP_LIMIT],
-}
+use refusals::{File, Refusal};
 
 // The channels of a text: the first `count` of the list. What is compared are these alone, since a text is long.
 #[derive(Clone, Copy)]
@@ -109,16 +94,17 @@ fn unmatched_of(s: &[u8], l: Channels, u: &[u8], r: Channels) -> usize
 }
 
 // Code 12 for channel c of the left, else for channel d of the right, where they are not 0.
-fn verdict_of(c: usize, d: usize) -> Matched
+#[tactic(auto, unfolding(crate::specs::Channels::verdict))]
+fn verdict_of(c: usize, d: usize) -> Result<(), Refusal>
     ensures { result ≡ verdict c d }
 {
     if c != 0 {
-        return Matched::Unmatched(Refusal::unmatched_channel(refusals::LEFT_FILE, c));
+        return Err(Refusal::UnmatchedChannel(File::Left, c));
     }
     if d != 0 {
-        return Matched::Unmatched(Refusal::unmatched_channel(refusals::RIGHT_FILE, d));
+        return Err(Refusal::UnmatchedChannel(File::Right, d));
     }
-    Matched::Equal
+    Ok(())
 }
 
 // The right's number of the left's step c.
@@ -152,8 +138,15 @@ fn steps_of(s: &[u8], l: Channels, u: &[u8], r: Channels) -> [usize; STEP_LIMIT]
     map
 }
 
-// Pair the channels of the left text with those of the right.
-pub fn pair_channels(left: &[u8], l: Text, right: &[u8], r: Text) -> Pairing
+// Pairs the channels of the left text with those of the right, or refuses them by code 12 (SPECIFICATION 9.1). The map
+// has the right's number of each step of the left: the tick is the tick, a channel the one of the same name, and 0
+// stands where there is none.
+pub fn pair_channels(
+    left: &[u8],
+    l: Text,
+    right: &[u8],
+    r: Text,
+) -> Result<[usize; STEP_LIMIT], Refusal>
     requires { WellFormed l × WellFormed r }
     ensures { result ≡ pairing left.now l right.now r }
 {
@@ -161,9 +154,8 @@ pub fn pair_channels(left: &[u8], l: Text, right: &[u8], r: Text) -> Pairing
     let theirs = channels_of(r);
     let c = unmatched_of(left, ours, right, theirs);
     let d = unmatched_of(right, theirs, left, ours);
-    let answer = verdict_of(c, d);
-    let map = steps_of(left, ours, right, theirs);
-    Pairing { answer, map }
+    verdict_of(c, d)?;
+    Ok(steps_of(left, ours, right, theirs))
 }
 
 // The row that starts at `from`, of so many steps, out of the table.

@@ -13,6 +13,7 @@ use borrow.Author.Tests.{eqb-false}
 use Rattle.systems.specs.Definitions.{tick}
 use Rattle.bitmaps.specs.BitLaws.{less}
 use Rattle.refusals.specs.declared.Refusal.{Refusal}
+use Rattle.refusals.specs.Refusals.{mark, code, file, p, q}
 use Rattle.reader_record.specs.declared.Channel.{Channel}
 use Rattle.reader_record.specs.Record.{no_channel}
 use Rattle.byte_slices.specs.Decimal.{ascii, digit, decimal}
@@ -34,13 +35,13 @@ unfolding line spaced
 one_number word n h = simp length-append (omega arith)
 
 pub four_numbers :
-    (f : Refusal) → Short f.code → Short f.file → Short f.p → Short f.q
+    (f : Refusal) → Short (code f) → Short (mark (file f)) → Short (p f) → Short (q f)
     → length (refusal_line f) ≤ line_limit
 unfolding refusal_line line spaced
 four_numbers f h i j k = simp length-append (omega arith)
 
 -- the front of a slice, as far as it goes
-pub front_of : {end : ℕ} (n : ℕ) (s : List ℕ) → end ≡ min n (length s) → take end s ≡ take n s
+pub front_of : {end : ℕ} (n : ℕ) (s : List ℕ) → end ≡ min (length s) n → take end s ≡ take n s
 front_of {end} n s e =
     ⊎_elim (λ l. take_all end s (omega arith) ∙ sym (take_all n s (omega arith)))
     (λ l. let f : end ≡ n = omega arith in rw f)
@@ -48,7 +49,7 @@ front_of {end} n s e =
 
 -- a part of a slice whose ends are kept within it
 pub part_of :
-    {start end : ℕ} (place len : ℕ) (s : List ℕ) → start ≡ min place (length s) → end ≡ min (place + len) (length s)
+    {start end : ℕ} (place len : ℕ) (s : List ℕ) → start ≡ min (length s) place → end ≡ min (length s) (place + len)
     → take (end - start) (drop start s) ≡ take len (drop place s)
 part_of {start} {end} place len s a b =
     ⊎_elim outside (λ l. ⊎_elim (cut l) (whole l) (less (length s) (place + len))) (less (length s) place)

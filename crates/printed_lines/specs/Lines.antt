@@ -1,6 +1,7 @@
 -- The lines that the programs print, as bytes (SPECIFICATION 14.2, 14.3, 14.5, 14.7).
 use Rattle.std.specs.Prelude.{cond, List, [], ◌∷◌, ◌++◌, ℕ, ◌-◌, eqb, get_or, take}
 use Rattle.refusals.specs.declared.Refusal.{Refusal}
+use Rattle.refusals.specs.Refusals.{mark, code, file, p, q}
 use Rattle.systems.specs.Definitions.{tick}
 use Rattle.reader_record.specs.declared.Direction.{Direction}
 use Rattle.reader_record.specs.declared.Direction.TheVariants.{Unused, Input, Output}
@@ -21,7 +22,7 @@ line word ns = (word ++ spaced ns) ++ line_end
 
 -- `REFUSED code file p q`
 unfoldable pub refusal_line : Refusal → List ℕ
-refusal_line f = line (ascii "REFUSED") (f.code ∷ f.file ∷ f.p ∷ f.q ∷ [])
+refusal_line f = line (ascii "REFUSED") (code f ∷ mark (file f) ∷ p f ∷ q f ∷ [])
 
 -- `YES count`, with the pairs of the widest table
 unfoldable pub yes_line : ℕ → List ℕ

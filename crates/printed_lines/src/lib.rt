@@ -2,7 +2,7 @@
 // them; a byte for which the slice has no place is dropped, so no function asks for a length.
 #![tactic(auto)]
 
-ghost use Rattle.std.specs.Prelude.{◌≡◌, [], ◌∷◌, ◌++◌, ◌+◌, ◌-◌, ◌<◌, ◌≤◌, min, length, get_or};
+ghost use Rattle.std.specs.Prelude.{◌≡◌, [], ◌∷◌, ◌++◌, ◌+◌, ◌-◌, ◌<◌, ◌≤◌, length, get_or};
 ghost use Rattle.reader_record.specs.Record.{no_channel};
 ghost use Rattle.pairing.specs.Channels.{spelling};
 ghost use Rattle.byte_slices.specs.Decimal.{ascii, decimal};
@@ -58,14 +58,15 @@ pub fn put_refusal(out: &mut [u8], at: usize, f: Refusal) -> usize
     ensures short { length (refusal_line f) ≤ line_limit }
 {
     let word = put_bytes(out, at, b"REFUSED");
-    let code = put_spaced(out, word, f.code);
-    let file = put_spaced(out, code, f.file);
-    let p = put_spaced(out, file, f.p);
-    let q = put_spaced(out, p, f.q);
+    let code = put_spaced(out, word, f.code());
+    let file = put_spaced(out, code, f.file().mark());
+    let p = put_spaced(out, file, f.p());
+    let q = put_spaced(out, p, f.q());
     put_byte(out, q, LINE_END)
 }
 
 // YES and the number of the widest table's pairs.
+#[tactic(auto, unfolding(crate::specs::Lines::yes_line))]
 pub fn put_yes(out: &mut [u8], at: usize, count: usize) -> usize
     ensures puts { Puts out.old at (yes_line count) out.new result }
     ensures short { length (yes_line count) ≤ line_limit }
@@ -83,6 +84,7 @@ pub fn put_passed(out: &mut [u8], at: usize) -> usize
 }
 
 // ACCEPTED and the number of the checked table's pairs.
+#[tactic(auto, unfolding(crate::specs::Lines::accepted_line))]
 pub fn put_accepted(out: &mut [u8], at: usize, count: usize) -> usize
     ensures puts { Puts out.old at (accepted_line count) out.new result }
     ensures short { length (accepted_line count) ≤ line_limit }
@@ -90,33 +92,23 @@ pub fn put_accepted(out: &mut [u8], at: usize, count: usize) -> usize
     put_count(out, at, b"ACCEPTED", count)
 }
 
-// The lesser of two numbers.
-fn least(m: usize, n: usize) -> usize
-    ensures { result ≡ min m n }
-{
-    if m < n {
-        return m;
-    }
-    n
-}
-
 // A name, as the text spells it.
 fn put_name(out: &mut [u8], at: usize, text: &[u8], name: Name) -> usize
     ensures { Puts out.old at (spelling text.now name) out.new result }
 {
-    let start = least(name.place as usize, text.len());
-    let end = least(name.place as usize + name.len as usize, text.len());
+    let start = text.len().min(name.place as usize);
+    let end = text.len().min(name.place as usize + name.len as usize);
     put_bytes(out, at, &text[start..end])
 }
 
 // The mark of a direction.
+#[tactic(auto, unfolding(crate::specs::Lines::direction_mark))]
 fn mark_of(d: Direction) -> u8
     ensures { (result ∷ []) ≡ direction_mark d }
 {
     match d {
         Direction::Input => b'?',
-        Direction::Output => b'!',
-        Direction::Unused => b'!',
+        Direction::Output | Direction::Unused => b'!',
     }
 }
 
@@ -124,10 +116,8 @@ fn mark_of(d: Direction) -> u8
 fn put_channel(out: &mut [u8], at: usize, text: &[u8], k: Channel) -> usize
     ensures { Puts out.old at (channel_line text.now k) out.new result }
 {
-    let name = k.name;
-    let d = k.direction;
-    let spelled = put_name(out, at, text, name);
-    let marked = put_byte(out, spelled, mark_of(d));
+    let spelled = put_name(out, at, text, k.name);
+    let marked = put_byte(out, spelled, mark_of(k.direction));
     put_byte(out, marked, LINE_END)
 }
 
@@ -175,11 +165,9 @@ fn put_steps(
         out.new result }
 {
     let mut place = at;
-    let mut done: usize = 0;
-    while done < run.len() {
-        let step = Step::of_written(run[done]);
+    for entry in run {
+        let step = Step::of_written(*entry);
         place = put_step(out, place, text, channels, step);
-        done += 1;
     }
     place
 }
@@ -198,6 +186,6 @@ pub fn put_departure(
     ensures short { length (line (ascii "NO") (n ∷ [])) ≤ line_limit }
 {
     let head = put_count(out, at, b"NO", n);
-    let end = least(n, run.len());
+    let end = run.len().min(n);
     put_steps(out, head, text, channels, &run[..end])
 }

@@ -16,7 +16,7 @@ use Rattle.reader_parts.specs.Binds.{and_then}
 use Rattle.reader_parts.specs.Names.{differs, slot_of, declare_name, declare, use_of, use_name}
 use Rattle.reader_formed.specs.Promise.{Within, Unlike}
 use Rattle.reader_formed.proofs.Cases.{split, never, or_left, or_right, run_stops, run_passes}
-use Rattle.reader_formed.proofs.Going.{Named, name_read}
+use Rattle.reader_formed.proofs.Names.{Named, name_read}
 
 -- the name in slot i
 abbrev pub slot : List Name → ℕ → Name

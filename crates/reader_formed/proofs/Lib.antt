@@ -1,5 +1,5 @@
 pub mod Cases
-pub mod Going
+pub mod Names
 pub mod Declared
 pub mod Slots
 pub mod Comparisons

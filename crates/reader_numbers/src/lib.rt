@@ -62,13 +62,13 @@ const LOCATIONS_PLACE: usize = CLOCKS_PLACE + CLOCK_LIMIT * NAME_SIZE;
 
 const EDGES_PLACE: usize = LOCATIONS_PLACE + LOCATION_LIMIT * LOCATION_SIZE;
 
+// Writes x at a place; past the end of the slice it is dropped.
 fn put(out: &mut [usize], at: usize, x: usize)
     ensures { out.new ≡ put_at out.old at (x ∷ []) }
 {
-    if out.len() <= at {
-        return;
+    if at < out.len() {
+        out[at] = x;
     }
-    out[at] = x;
 }
 
 fn put_two(out: &mut [usize], at: usize, x: usize, y: usize)
@@ -87,6 +87,7 @@ fn put_three(out: &mut [usize], at: usize, x: usize, y: usize, z: usize)
     put(out, at + 2, z);
 }
 
+#[tactic(auto, unfolding(crate::specs::Numbers::sign_number))]
 fn sign_number(s: Sign) -> usize
     ensures { result ≡ sign_number s }
 {
@@ -99,6 +100,7 @@ fn sign_number(s: Sign) -> usize
     }
 }
 
+#[tactic(auto, unfolding(crate::specs::Numbers::direction_number))]
 fn direction_number(d: Direction) -> usize
     ensures { result ≡ direction_number d }
 {
@@ -109,28 +111,13 @@ fn direction_number(d: Direction) -> usize
     }
 }
 
-fn made_number(b: bool) -> usize
-    ensures { result ≡ cond b 1 0 }
-{
-    if b {
-        return 1;
-    }
-    0
-}
-
 fn write_label(out: &mut [usize], at: usize, l: Label)
     requires { at + label_size ≤ record_size }
     ensures { out.new ≡ put_at out.old at (label_numbers l) }
 {
     match l {
-        Label::Input(c) => {
-            let d = Direction::Input;
-            put_two(out, at, direction_number(d), c as usize);
-        }
-        Label::Output(c) => {
-            let d = Direction::Output;
-            put_two(out, at, direction_number(d), c as usize);
-        }
+        Label::Input(c) => put_two(out, at, direction_number(Direction::Input), c as usize),
+        Label::Output(c) => put_two(out, at, direction_number(Direction::Output), c as usize),
     }
 }
 
@@ -138,8 +125,7 @@ fn write_comparison(out: &mut [usize], at: usize, c: Comparison)
     requires { at + comparison_size ≤ record_size }
     ensures { out.new ≡ put_at out.old at (comparison_numbers c) }
 {
-    let s = c.sign;
-    let sign = sign_number(s);
+    let sign = sign_number(c.sign);
     put_three(out, at, c.clock as usize, sign, c.bound as usize);
 }
 
@@ -149,11 +135,8 @@ fn write_constraint(out: &mut [usize], at: usize, g: Constraint)
     ensures { out.new ≡ put_at out.old at (constraint_numbers g) }
 {
     put(out, at, g.count as usize);
-    let mut i: usize = 0;
-    while i < COMPARISON_LIMIT {
-        let c = g.comparisons[i];
-        write_comparison(out, at + 1 + i * COMPARISON_SIZE, c);
-        i += 1;
+    for (i, c) in g.comparisons.iter().enumerate() {
+        write_comparison(out, at + 1 + i * COMPARISON_SIZE, *c);
     }
 }
 
@@ -162,8 +145,7 @@ fn write_channel(out: &mut [usize], at: usize, k: Channel)
     ensures { out.new ≡ put_at out.old at (channel_numbers k) }
 {
     let name = k.name;
-    let d = k.direction;
-    let direction = direction_number(d);
+    let direction = direction_number(k.direction);
     put_three(out, at, name.place as usize, name.len as usize, direction);
 }
 
@@ -173,8 +155,7 @@ fn write_location(out: &mut [usize], at: usize, l: Location)
 {
     let name = l.name;
     put_two(out, at, name.place as usize, name.len as usize);
-    let g = l.invariant;
-    write_constraint(out, at + NAME_SIZE, g);
+    write_constraint(out, at + NAME_SIZE, l.invariant);
 }
 
 // 1 where it is made, the value and the largest one written.
@@ -182,7 +163,7 @@ fn write_assignment(out: &mut [usize], at: usize, a: Assignment)
     requires { at + assignment_size ≤ record_size }
     ensures { out.new ≡ put_at out.old at (assignment_numbers a) }
 {
-    let made = made_number(a.made);
+    let made = usize::from(a.made);
     put_three(out, at, made, a.value as usize, a.largest as usize);
 }
 
@@ -191,11 +172,8 @@ fn write_assignments(out: &mut [usize], at: usize, e: Edge)
     requires { at + assignments_size ≤ record_size }
     ensures { out.new ≡ put_at out.old at (assignments_numbers e) }
 {
-    let mut k: usize = 0;
-    while k < CLOCK_LIMIT {
-        let a = e.assignments[k];
-        write_assignment(out, at + k * ASSIGNMENT_SIZE, a);
-        k += 1;
+    for (k, a) in e.assignments.iter().enumerate() {
+        write_assignment(out, at + k * ASSIGNMENT_SIZE, *a);
     }
 }
 
@@ -205,56 +183,42 @@ fn write_edge(out: &mut [usize], at: usize, e: Edge)
     ensures { out.new ≡ put_at out.old at (edge_numbers e) }
 {
     put_two(out, at, e.source as usize, e.target as usize);
-    let l = e.label;
-    write_label(out, at + LABEL_PLACE, l);
-    let g = e.guard;
-    write_constraint(out, at + GUARD_PLACE, g);
+    write_label(out, at + LABEL_PLACE, e.label);
+    write_constraint(out, at + GUARD_PLACE, e.guard);
     write_assignments(out, at + ASSIGNMENTS_PLACE, e);
 }
 
 fn write_channels(out: &mut [usize], channels: [Channel; CHANNEL_LIMIT])
     ensures { out.new ≡ put_at out.old channels_place (rows channel_limit (channel_row channels)) }
 {
-    let mut i: usize = 0;
-    while i < CHANNEL_LIMIT {
-        let k = channels[i];
-        write_channel(out, CHANNELS_PLACE + i * CHANNEL_SIZE, k);
-        i += 1;
+    for (i, k) in channels.iter().enumerate() {
+        write_channel(out, CHANNELS_PLACE + i * CHANNEL_SIZE, *k);
     }
 }
 
 fn write_clocks(out: &mut [usize], clocks: [Name; CLOCK_LIMIT])
     ensures { out.new ≡ put_at out.old clocks_place (rows clock_limit (clock_row clocks)) }
 {
-    let mut i: usize = 0;
-    while i < CLOCK_LIMIT {
-        let name = clocks[i];
+    for (i, name) in clocks.iter().enumerate() {
         let place = name.place as usize;
         let len = name.len as usize;
         put_two(out, CLOCKS_PLACE + i * NAME_SIZE, place, len);
-        i += 1;
     }
 }
 
 fn write_locations(out: &mut [usize], locations: [Location; LOCATION_LIMIT])
     ensures { out.new ≡ put_at out.old locations_place (rows location_limit (location_row locations)) }
 {
-    let mut i: usize = 0;
-    while i < LOCATION_LIMIT {
-        let l = locations[i];
-        write_location(out, LOCATIONS_PLACE + i * LOCATION_SIZE, l);
-        i += 1;
+    for (i, l) in locations.iter().enumerate() {
+        write_location(out, LOCATIONS_PLACE + i * LOCATION_SIZE, *l);
     }
 }
 
 fn write_edges(out: &mut [usize], edges: [Edge; EDGE_LIMIT])
     ensures { out.new ≡ put_at out.old edges_place (rows edge_limit (edge_row edges)) }
 {
-    let mut i: usize = 0;
-    while i < EDGE_LIMIT {
-        let e = edges[i];
-        write_edge(out, EDGES_PLACE + i * EDGE_SIZE, e);
-        i += 1;
+    for (i, e) in edges.iter().enumerate() {
+        write_edge(out, EDGES_PLACE + i * EDGE_SIZE, *e);
     }
 }
 
@@ -264,12 +228,8 @@ pub fn write(out: &mut [usize], t: Text, states: usize)
 {
     put_three(out, 0, t.channel_count, t.clock_count, t.location_count);
     put_three(out, INIT_PLACE, t.init, t.edge_count, states);
-    let channels = t.channels;
-    let clocks = t.clocks;
-    let locations = t.locations;
-    let edges = t.edges;
-    write_channels(out, channels);
-    write_clocks(out, clocks);
-    write_locations(out, locations);
-    write_edges(out, edges);
+    write_channels(out, t.channels);
+    write_clocks(out, t.clocks);
+    write_locations(out, t.locations);
+    write_edges(out, t.edges);
 }

@@ -1,5 +1,8 @@
 -- The ends of the code's paths.
-use mathlib.Core.Path.{◌≡◌, ap, ◌∙◌}
+use Rattle.std.specs.Prelude.{Result, Ok, Err}
+use Rattle.std.specs.Result.{IsErrAnd}
+use Rattle.std.proofs.lemmas.Result.{err_from_is_err_and}
+use mathlib.Core.Path.{◌≡◌, refl, sym, ap, ◌∙◌}
 use mathlib.Core.Bool.{Bool, true, false}
 use mathlib.Core.List.{List}
 use Prim.Native.Nat.{ℕ, ◌+◌, ◌*◌, ◌/◌, ◌≤◌, ◌<◌}
@@ -10,7 +13,7 @@ use borrow.Author.Tests.{lt-ltb, le-ltb}
 use Rattle.systems.specs.Tests.{at, ones}
 use Rattle.systems.specs.Finite as finite
 use Rattle.refusals.specs.declared.Refusal.{Refusal}
-use Rattle.refusals.specs.Refusals.{keep_too_short}
+use Rattle.refusals.specs.declared.Refusal.TheVariants.{KeepTooShort}
 use Rattle.reader_record.specs.declared.Text.{Text}
 use Rattle.bitmaps.specs.Bits.{tab_from, bit_at}
 use Rattle.bitmaps.specs.Packed.{bytes_for, Packed, packed, Bitmap}
@@ -29,15 +32,18 @@ use Rattle.clocks.proofs.Judgement.{judgement_few}
 use Rattle.clocks.proofs.Contract.{system}
 use Rattle.clocks.proofs.Encoded.{table_bounded, table_encoded, bits_bitmap, bits_start, safe_states_same, length_invariants, length_safe}
 use Rattle.clocks_safe.specs.Settle.{SafeAnswer}
-use Rattle.refusals.specs.declared.Verdict.TheVariants as verdict
 use Rattle.clocks_read.specs.declared.Reading.{Reading}
-use Rattle.clocks_read.specs.Reading.{read_outcome}
-use Rattle.clocks_read.specs.Loading.{load_outcome, loading}
-use Rattle.clocks_read.specs.Loaded.{answer_is, text_is, record_accepted, states_are, slices_filled}
-use Rattle.safe_states.specs.declared.SafeAnswer.TheVariants.{Found, Refused}
+use Rattle.clocks_read.specs.Reading.{read_outcome, text_in}
+use Rattle.clocks_read.specs.Loading.{Loading, load_outcome, loading}
+use Rattle.clocks_read.specs.Laws.{load_reading}
+use Rattle.clocks_read.specs.Loaded.{text_is, record_accepted, states_are, states_few, slices_filled}
+use Rattle.safe_states.specs.declared.SafeStates.{SafeStates}
 use Rattle.safe_states.specs.Outcome.{Outcome, refused, found_outcome, kept_outcome, answered, safe_outcome}
 use Rattle.limits.specs.Limits.{state_limit, step_limit}
 use Rattle.safe_states.specs.Ready.{Ready}
+
+abbrev pub outcome : Result SafeStates Refusal → List ℕ → Outcome
+outcome answer keep = record { answer = answer; keep = keep }
 
 module _ {t : Text} {v : Ranges} {n : ℕ} {moves holds keep : List ℕ} (R : Ready t v n moves holds keep) where
   pub ready_bounded : Bounded n (t.channel_count + 1) moves
@@ -83,48 +89,60 @@ module _ {t : Text} {v : Ranges} {n : ℕ} {moves holds keep : List ℕ} (R : Re
       ready_start = omega (arith, start_is, start_in, packed_length safe_packed, R.long)
 
       pub ready_found : (r : ℕ) (b : Bool) → r ≡ ones (safe_states t) → b ≡ bit_at after u.state
-          → refused (Found r b) after ≡ found_outcome t keep
+          → outcome (Ok (record { count = r; start = b })) after ≡ found_outcome t keep
       unfolding found_outcome
       ready_found r b c f = rw (c, f ∙ ap (bit_at after) start_is ∙ packed_bit safe_packed (start_state t) start_in, e)
 
 -- the paths after the text is read and the slices are filled
-module _ (period : ℕ) (s k m h : List ℕ) (r : Reading) (m' h' : List ℕ)
-    (e : loading r m' h' ≡ load_outcome period s m h) where
-  pub safe_refused : (f : Refusal) → r.answer ≡ verdict.Refused f → refused (Refused f) k ≡ safe_outcome period s k
-  unfolding safe_outcome answered
-  safe_refused f a = rw (answer_is period s m h r m' h' e (verdict.Refused f) a)
-
-  module _ (a : r.answer ≡ verdict.Accepted) where
-    outcome_is : safe_outcome period s k ≡ kept_outcome r.text k
+module _ (period : ℕ) (s m h m' h' k : List ℕ) where
+  module _ (f : Refusal) (e : loading (Err f) m' h' ≡ load_outcome period s m h) where
+    pub safe_refused : (r : Result SafeStates Refusal) → IsErrAnd r (λ g. g ≡ f) → outcome r k ≡ safe_outcome period s k
     unfolding safe_outcome answered
-    outcome_is = rw (answer_is period s m h r m' h' e verdict.Accepted a, text_is period s m h r m' h' e)
+    safe_refused r i =
+        let (g, is, same) = err_from_is_err_and r i in
+        let reading : Err f ≡ read_outcome period s = ap (λ (l : Loading). l.reading) e ∙ load_reading period s m h in
+        rw (sym reading, is, same)
+
+  module _ (x : Reading) (e : loading (Ok x) m' h' ≡ load_outcome period s m h) where
+    outcome_is : safe_outcome period s k ≡ kept_outcome x.text k
+    unfolding safe_outcome answered
+    outcome_is =
+        let reading : Ok x ≡ read_outcome period s = ap (λ (l : Loading). l.reading) e ∙ load_reading period s m h in
+        rw (sym reading)
+
+    states : x.states ≡ state_count x.text
+    states = states_are period s m h (Ok x) m' h' e refl
+
+    pub safe_few : x.states ≤ state_limit
+    safe_few = states_few period s m h (Ok x) m' h' e refl
 
     -- keep is judged by the bytes that it needs
-    module _ (need : ℕ) (n : need ≡ bytes_for r.states) where
-      bytes_are : need ≡ bytes_for (state_count r.text)
-      bytes_are = n ∙ ap bytes_for (states_are period s m h r m' h' e a)
+    module _ (need : ℕ) (n : need ≡ bytes_for x.states) where
+      bytes_are : need ≡ bytes_for (state_count x.text)
+      bytes_are = n ∙ ap bytes_for states
 
-      pub safe_short : length k < need → (f : Refusal) → f ≡ keep_too_short need
-          → refused (Refused f) k ≡ safe_outcome period s k
+      pub safe_short : length k < need → outcome (Err (KeepTooShort need)) k ≡ safe_outcome period s k
       unfolding kept_outcome
-      safe_short l f e =
-          let q : ltb (length k) (bytes_for (state_count r.text)) ≡ true =
-          lt-ltb (length k) (bytes_for (state_count r.text)) (rw bytes_are at l) in
-          rw (outcome_is, e, bytes_are) (rw (q, kept_outcome))
+      safe_short l =
+          let q : ltb (length k) (bytes_for (state_count x.text)) ≡ true =
+          lt-ltb (length k) (bytes_for (state_count x.text)) (rw bytes_are at l) in
+          rw (outcome_is, bytes_are) (rw (q, kept_outcome))
 
-      pub safe_found : need ≤ length k → (o : Outcome) → o ≡ found_outcome r.text k → o ≡ safe_outcome period s k
+      pub safe_found : need ≤ length k → (o : Outcome) → o ≡ found_outcome x.text k → o ≡ safe_outcome period s k
       unfolding kept_outcome
       safe_found l o f =
-          let q : ltb (length k) (bytes_for (state_count r.text)) ≡ false =
-          le-ltb (length k) (bytes_for (state_count r.text)) (rw bytes_are at l) in
+          let q : ltb (length k) (bytes_for (state_count x.text)) ≡ false =
+          le-ltb (length k) (bytes_for (state_count x.text)) (rw bytes_are at l) in
           f ∙ rw outcome_is (rw (q, kept_outcome))
 
-      pub safe_ready : need ≤ length k → (v : Ranges) (m₀ : ℕ) → Counted (read_outcome period s).text v m₀
-          → Room m₀ (length m) (length h) → Ready r.text v r.states m' h' k
-      safe_ready p v m₀ q l = record {
-        accepted = record_accepted period s m h r m' h' e a;
-        same = rw (text_is period s m h r m' h' e) q.same;
-        count = states_are period s m h r m' h' e a;
-        filled = slices_filled period s m h r m' h' e a m₀ q.count l;
-        long = rw bytes_are at p;
-      }
+      pub safe_ready : need ≤ length k → (v : Ranges) (m₀ : ℕ) → Counted (text_in (read_outcome period s)) v m₀
+          → Room m₀ (length m) (length h) → Ready x.text v x.states m' h' k
+      safe_ready p v m₀ q l =
+          let same : x.text ≡ text_in (read_outcome period s) = text_is period s m h (Ok x) m' h' e in
+          record {
+            accepted = record_accepted period s m h (Ok x) m' h' e refl;
+            same = rw same q.same;
+            count = states;
+            filled = slices_filled period s m h (Ok x) m' h' e refl m₀ q.count l;
+            long = rw bytes_are at p;
+          }

@@ -1,6 +1,6 @@
 -- What the safe-state operation says of an accepted text with uncapped clocks.
-use Rattle.std.specs.Prelude.{◌≡◌, ◌↔◌, Bool, ℕ, ◌≤◌, length}
-use Rattle.std.proofs.Common.{sym, subst, ◌∙◌}
+use Rattle.std.specs.Prelude.{◌≡◌, refl, ◌↔◌, Bool, ℕ, ◌≤◌, length, Result, Ok, Err, ⊤}
+use Rattle.std.proofs.Common.{sym, subst, arith, ◌∙◌}
 use Rattle.std.proofs.Math.Path.{ap}
 use Rattle.std.proofs.Math.Bool.{true, false}
 use mathlib.Core.List.{List}
@@ -18,28 +18,45 @@ use Rattle.clocks.specs.Accepted.{Accepted}
 use Rattle.clocks.proofs.Contract.{signature, system}
 use Rattle.clocks.proofs.Encoded.{safe_states_same}
 use Rattle.clocks.proofs.Results.{Meaning, text_implementable}
-use Rattle.refusals.specs.declared.Verdict.TheVariants as verdict
-use Rattle.clocks_read.specs.Reading.{read_outcome}
+use Rattle.refusals.specs.declared.Refusal.{Refusal}
+use Rattle.refusals.specs.Answers.{answer_of}
+use Rattle.clocks_read.specs.declared.Reading.{Reading}
+use Rattle.clocks_read.specs.Reading.{read_outcome, text_in}
 use Rattle.clocks_read.specs.Laws.{read_accepted}
-use Rattle.safe_states.specs.declared.SafeAnswer.TheVariants.{Found}
+use Rattle.safe_states.specs.declared.SafeStates.{SafeStates}
 use Rattle.safe_states.specs.Outcome.{Outcome, found_outcome, kept_outcome, answered, safe_outcome}
 
+-- an accepted text's outcome goes by its record
+answered_accepted : (r : Result Reading Refusal) (k : List ℕ) → answer_of r ≡ Ok tt
+    → answered r k ≡ kept_outcome (text_in r) k
+unfolding answered
+answered_accepted (Ok r) k e = refl
+answered_accepted (Err f) k e = let z : ◌≡◌ {A = ℕ} 0 1 = cc in absurd (omega arith)
+
+-- what the operation finds
+abbrev found : ℕ → Bool → Result SafeStates Refusal
+found count start = Ok (record { count = count; start = start })
+
+abbrev start_in : Result SafeStates Refusal → Bool
+start_in (Ok found) = found.start
+start_in (Err f) = false
+
 -- an accepted text and a keep that is long enough
-module _ (period : ℕ) (s k : List ℕ) (e : (read_outcome period s).answer ≡ verdict.Accepted)
-    (long : bytes_for (state_count (read_outcome period s).text) ≤ length k) where
+module _ (period : ℕ) (s k : List ℕ) (e : answer_of (read_outcome period s) ≡ Ok tt)
+    (long : bytes_for (state_count (text_in (read_outcome period s))) ≤ length k) where
   abbrev pub text : Text
-  text = (read_outcome period s).text
+  text = text_in (read_outcome period s)
 
   abbrev pub accepted : Accepted text
   accepted = (read_accepted period s e).accepted
 
   -- the operation succeeds
   pub succeeds : safe_outcome period s k ≡ found_outcome text k
-  unfolding safe_outcome answered kept_outcome
+  unfolding safe_outcome kept_outcome
   succeeds =
-      let q : ltb (length k) (bytes_for (state_count (read_outcome period s).text)) ≡ false =
-      le-ltb (length k) (bytes_for (state_count (read_outcome period s).text)) long in
-      rw e (rw (q, kept_outcome))
+      let q : ltb (length k) (bytes_for (state_count (text_in (read_outcome period s)))) ≡ false =
+      le-ltb (length k) (bytes_for (state_count (text_in (read_outcome period s)))) long in
+      answered_accepted (read_outcome period s) k e ∙ rw (q, kept_outcome)
 
   -- the start as the operation answers it is safe in the text's system
   start_same : at (safe_states text) (start_state text)
@@ -47,14 +64,14 @@ module _ (period : ℕ) (s k : List ℕ) (e : (read_outcome period s).answer ≡
   start_same = unfold system in ap (λ (X : List Bool). at X (start_state text)) (safe_states_same text accepted)
 
   -- some implementation satisfies the text exactly when the operation says that the start is safe
-  pub consistent_iff : ((n : ℕ) × ((safe_outcome period s k).answer ≡ Found n true)) ↔
+  pub consistent_iff : ((n : ℕ) × ((safe_outcome period s k).answer ≡ Ok (record { count = n; start = true }))) ↔
       ((I : Implementation (signature text)) × Satisfies I (Meaning text accepted))
   unfolding found_outcome
   consistent_iff = (
     λ (n, q).
-        let f : Found (ones (safe_states text)) (at (safe_states text) (start_state text)) ≡ Found n true =
+        let f : found (ones (safe_states text)) (at (safe_states text) (start_state text)) ≡ found n true =
         ap (λ (o : Outcome). o.answer) (sym succeeds) ∙ q in
-        let b : at (safe_states text) (start_state text) ≡ true = cc in
+        let b : at (safe_states text) (start_state text) ≡ true = ap start_in f in
         (text_implementable text accepted).1 (subst T (sym b ∙ start_same) tt),
     λ i.
         let h = (text_implementable text accepted).0 i in
@@ -62,6 +79,6 @@ module _ (period : ℕ) (s k : List ℕ) (e : (read_outcome period s).answer ≡
         ∙ T_true (finite.safe (system text accepted) (system text accepted).start) h in (
           ones (safe_states text),
           ap (λ (o : Outcome). o.answer) succeeds
-              ∙ ap (λ (x : Bool). Found (ones (safe_states text)) x) b,
+              ∙ ap (λ (x : Bool). found (ones (safe_states text)) x) b,
         ),
   )

@@ -8,16 +8,17 @@ ghost use Rattle.bitmaps.specs.Packed.{bytes_for};
 ghost use Rattle.tables_rows.specs.Given.{Slices};
 ghost use Rattle.tables_rows.specs.Raster.{part};
 ghost use Rattle.tables_check.specs.Fault.{fault_of_pair, table_from};
-ghost use Rattle.tables_shifts.specs.Shifts.{Room};
+ghost use Rattle.tables_shifts.specs.Shifts.{class_limit, class_entries};
 ghost use Rattle.tables_runs.specs.Runs.{Within};
 ghost use Rattle.tables_cut.specs.Rule.{ok_of, Shape, Tables, Loaded};
 ghost use Rattle.tables_check.specs.Scan.{first_bad, fault_at, Blank, Sifted, RowPasses};
-ghost use Rattle.limits.specs.Limits.{state_limit, keep_limit};
+ghost use Rattle.limits.specs.Limits.{state_limit, step_limit, keep_limit};
 
-use limits::KEEP_LIMIT;
+use limits::{FEW_MOVES, FEW_STATES, KEEP_LIMIT, MOVE_LIMIT, STATE_LIMIT};
 use move_tables::Sides;
 use steps::Step;
 use tables_cut::Span;
+use tables_shifts::{ALL_ENTRIES, FEW_MASK_BYTES, MASK_LIMIT};
 
 // What a pair that is set fails at: a state that may not be there, or a rule, broken at a step.
 #[derive(Clone, Copy)]
@@ -78,16 +79,14 @@ pub fn first_bad(
 {
     let a = s * steps;
     let b = t * steps;
-    let mut c: usize = 0;
-    while c < steps {
+    for c in 0..steps {
         let u = lm[a + c] as usize;
         let v = rm[b + c] as usize;
         if !step_ok(raster, n, w, u, v) {
             return c;
         }
-        c += 1;
     }
-    c
+    steps
 }
 
 // What the pair (s, t) fails at, if it is set; `row` is the left state's row, lent as a part of the raster.
@@ -166,12 +165,10 @@ fn cut_by_steps(
     ensures { Sifted lm.now rm.now sides.right_states sides.steps
         raster.now s sides.steps row.old row.new }
 {
-    let mut step: usize = 0;
-    while step < sides.steps {
+    for step in 0..sides.steps {
         tables_cut::cut_by_step(
             row, raster, lm, rm, runs, classes, masks, sides, s, step, span,
         );
-        step += 1;
     }
 }
 
@@ -186,10 +183,8 @@ fn is_row(row: &[u8], raster: &[u8], n: usize, w: usize, s: usize) -> bool
     let e = a + b;
     let before = &raster[a..e];
     let mut changed: u8 = 0;
-    let mut i: usize = 0;
-    while i < b {
+    for i in 0..b {
         changed = changed | (row[i] ^ before[i]);
-        i += 1;
     }
     changed == 0
 }
@@ -292,11 +287,8 @@ fn scan_rows(
     }
 }
 
-// The lowest pair that fails, with room for the runs and classes of the right.
-fn scan_with(
-    runs: &mut [u16],
-    classes: &mut [u16],
-    masks: &mut [u8],
+// The lowest pair that fails, with room for the runs and classes of STATES right states.
+fn scan_within<const STATES: usize, const MOVES: usize, const ENTRIES: usize, const MASKS: usize>(
     raster: &[u8],
     keep: &[u8],
     holds: &[u8],
@@ -304,19 +296,25 @@ fn scan_with(
     rm: &[u16],
     sides: Sides,
 ) -> Result<(), FailedPair>
-    requires { Slices keep.now holds.now lm.now rm.now sides
-        × ((sides.left_states * bytes_for sides.right_states ≤ length raster.now)
-        × ((sides.steps * sides.right_states ≤ length runs.old)
-        × Room sides.right_states sides.steps classes.old masks.old)) }
+    requires given { Slices keep.now holds.now lm.now rm.now sides }
+    requires room { sides.left_states * bytes_for sides.right_states ≤ length raster.now }
+    requires few { (sides.right_states ≤ STATES) × (STATES ≤ state_limit) }
+    requires sizes { (MOVES ≡ STATES * step_limit) × ((ENTRIES ≡ step_limit * class_entries)
+        × (MASKS ≡ step_limit * class_limit * bytes_for STATES)) }
     ensures { result ≡ table_from (fault_at lm.now rm.now keep.now
         holds.now sides.right_states sides.steps raster.now) sides.right_states
         sides.left_states 0 }
 {
-    tables_cut::find_shape(runs, classes, masks, rm, sides.right_states, sides.steps);
-    scan_rows(raster, keep, holds, lm, rm, runs, classes, masks, sides)
+    let w = sides.right_states;
+    let mut runs = [0; MOVES];
+    let mut classes = [0; ENTRIES];
+    let mut masks = [0; MASKS];
+    tables_cut::find_shape(&mut runs, &mut classes, &mut masks, rm, w, sides.steps);
+    scan_rows(raster, keep, holds, lm, rm, &runs, &classes, &masks, sides)
 }
 
-// The lowest pair that fails, by row and then column.
+// The lowest pair that fails, by row and then column. The large arrays would take longer to make than the table of few
+// states to check.
 pub fn scan(
     raster: &[u8],
     keep: &[u8],
@@ -331,33 +329,13 @@ pub fn scan(
         holds.now sides.right_states sides.steps raster.now) sides.right_states
         sides.left_states 0 }
 {
-    let mut classes = tables_shifts::classes_for_any_text();
-    if sides.right_states <= limits::FEW_STATES {
-        let mut few_runs = tables_runs::runs_for_few_states();
-        let mut few_masks = tables_shifts::masks_for_few_states();
-        return scan_with(
-            &mut few_runs,
-            &mut classes,
-            &mut few_masks,
-            raster,
-            keep,
-            holds,
-            lm,
-            rm,
-            sides,
-        );
+    if sides.right_states <= FEW_STATES {
+        scan_within::<FEW_STATES, FEW_MOVES, ALL_ENTRIES, FEW_MASK_BYTES>(
+            raster, keep, holds, lm, rm, sides,
+        )
+    } else {
+        scan_within::<STATE_LIMIT, MOVE_LIMIT, ALL_ENTRIES, MASK_LIMIT>(
+            raster, keep, holds, lm, rm, sides,
+        )
     }
-    let mut runs = tables_runs::runs_for_any_text();
-    let mut masks = tables_shifts::masks_for_any_text();
-    scan_with(
-        &mut runs,
-        &mut classes,
-        &mut masks,
-        raster,
-        keep,
-        holds,
-        lm,
-        rm,
-        sides,
-    )
 }

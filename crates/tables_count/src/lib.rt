@@ -25,7 +25,8 @@ fn whole_ones(b: u8) -> u16
     u32::count_ones(b as u32) as u16
 }
 
-// The ones of a row of w bits, byte by byte.
+// The ones of a row of w bits, byte by byte. Kept: counted byte by byte, those of the last byte after its padding is taken
+// off, since padding is never counted (SPECIFICATION 11.3).
 pub fn row_ones(row: &[u8], w: usize) -> usize
     requires { (w ≤ state_limit) × (bytes_for w ≤ length row.now) }
     ensures { result ≡ passing (bit_at row.now) w }
@@ -33,10 +34,8 @@ pub fn row_ones(row: &[u8], w: usize) -> usize
     let full = w / 8;
     let rest = w % 8;
     let mut r: u16 = 0;
-    let mut i: usize = 0;
-    while i < full {
+    for i in 0..full {
         r += whole_ones(row[i]);
-        i += 1;
     }
     let whole = r as usize;
     if rest == 0 {
@@ -64,10 +63,8 @@ fn block_lost(old: &[u8], row: &[u8], j: usize) -> u8
     ensures { (result ≤ 8 * block) × Lost old.now row.now j (j + block) result }
 {
     let mut r: u8 = 0;
-    let mut i: usize = 0;
-    while i < BLOCK {
+    for i in 0..BLOCK {
         r += byte_lost(old, row, j + i);
-        i += 1;
     }
     r
 }
@@ -79,10 +76,8 @@ fn blocks_lost(old: &[u8], row: &[u8], m: usize) -> usize
     ensures { (result ≤ 8 * (m * block)) × Lost old.now row.now 0 (m * block) result }
 {
     let mut r: usize = 0;
-    let mut i: usize = 0;
-    while i < m {
+    for i in 0..m {
         r += block_lost(old, row, i * BLOCK) as usize;
-        i += 1;
     }
     r
 }
@@ -99,10 +94,8 @@ pub fn row_lost(old: &[u8], row: &[u8], w: usize) -> usize
     let m = b / BLOCK;
     let whole = blocks_lost(old, row, m);
     let mut r: u32 = 0;
-    let mut i = m * BLOCK;
-    while i < b {
+    for i in m * BLOCK..b {
         r += byte_lost(old, row, i) as u32;
-        i += 1;
     }
     whole + r as usize
 }
@@ -114,13 +107,11 @@ pub fn pairs(raster: &[u8], n: usize, w: usize) -> usize
 {
     let b = bitmaps::bytes_for(w);
     let mut r: usize = 0;
-    let mut s: usize = 0;
-    while s < n {
+    for s in 0..n {
         let a = s * b;
         let e = a + b;
         let row = &raster[a..e];
         r += row_ones(row, w);
-        s += 1;
     }
     r
 }

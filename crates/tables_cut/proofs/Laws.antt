@@ -1,10 +1,9 @@
 -- Laws of the proofs of this crate: a row cut by a step, and where its set bits lie.
-use mathlib.Core.Path.{◌≡◌, ap, ◌∙◌}
+use mathlib.Core.Path.{◌≡◌}
 use mathlib.Core.Logic.{⊎_elim}
 use mathlib.Core.List.{List}
 use Prim.Native.Nat.{ℕ, ◌*◌, ◌/◌, ◌≤◌, ◌<◌}
 use native.Mathlib.Omega.{arith}
-use lib.ListN.{get_or}
 use Rattle.systems.specs.Tests.{stays}
 use Rattle.bitmaps.specs.BitLaws.{less}
 use Rattle.bitmaps.specs.Packed.{bytes_for}

@@ -37,14 +37,12 @@ fn end_byte(row: &[u8], b: usize, first: usize) -> usize
     requires { (first ≤ b) × (b ≤ length row.now) }
     ensures { (first ≤ result) × ((result ≤ b) × Blank row.now result b) }
 {
-    let mut j = b;
-    while first < j {
-        if row[j - 1] != 0 {
-            return j;
+    for j in (first..b).rev() {
+        if row[j] != 0 {
+            return j + 1;
         }
-        j -= 1;
     }
-    j
+    first
 }
 
 // Where the bits that are set in a row of w bits begin and end, by whole bytes.
@@ -55,8 +53,8 @@ pub fn span_of(row: &[u8], w: usize) -> Span
     let b = bitmaps::bytes_for(w);
     let first = tables_runs::first_byte(row, 0, b);
     let end = end_byte(row, b, first);
-    let from = tables_runs::least(w, 8 * first);
-    let to = tables_runs::least(w, 8 * end);
+    let from = w.min(8 * first);
+    let to = w.min(8 * end);
     Span { from, to }
 }
 

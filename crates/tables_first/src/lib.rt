@@ -48,12 +48,10 @@ fn find_masks(masks: &mut [u8], holds: &[u8], rm: &[u16], runs: &[u16], w: usize
     ensures { Masks rm.now holds.now w steps steps masks.new }
 {
     let b = bitmaps::bytes_for(w);
-    let mut c: usize = 0;
-    while c < steps {
+    for c in 0..steps {
         let a = c * b;
         let e = a + b;
         step_mask(&mut masks[a..e], holds, rm, runs, w, steps, c);
-        c += 1;
     }
 }
 
@@ -108,10 +106,8 @@ fn first_row(
         return 0;
     }
     bitmaps::copy(row, holds, b);
-    let mut c: usize = 0;
-    while c < steps {
+    for c in 0..steps {
         cut_by_mask(row, masks, lm, sides, s, c);
-        c += 1;
     }
     let lost = tables_count::row_lost(holds, row, w);
     all - lost
@@ -151,14 +147,12 @@ fn first_rows(
     let all = tables_count::row_ones(holds, w);
     let b = bitmaps::bytes_for(w);
     let mut r: usize = 0;
-    let mut s: usize = 0;
-    while s < n {
+    for s in 0..n {
         let a = s * b;
         let e = a + b;
         let m = first_row(&mut raster[a..e], masks, keep, holds, lm, sides, s, all);
         stamps[s] = stamp_of(m, all);
         r += m;
-        s += 1;
     }
     r
 }

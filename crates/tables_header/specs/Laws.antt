@@ -1,5 +1,5 @@
 -- What a table that fits is: the header and a raster of the right length.
-use Rattle.std.specs.Prelude.{◌≡◌, refl, ◌↔◌, true, ◌&&◌, List, [], ◌∷◌, ◌++◌, ℕ, ◌+◌, ◌-◌, T, eqb, length, drop}
+use Rattle.std.specs.Prelude.{◌≡◌, refl, ◌↔◌, true, ◌&&◌, List, [], ◌∷◌, ◌++◌, ℕ, ◌+◌, T, eqb, length, drop}
 use Rattle.std.proofs.Common.{sym, ap, subst, ◌∙◌, arith, eqb→eq, length-append, length-drop}
 use Rattle.std.proofs.Math.Dec.{eqb_refl}
 use Rattle.systems.specs.Bools.{and_T, and_both}

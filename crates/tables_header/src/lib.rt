@@ -12,6 +12,8 @@ use limits::{KEEP_LIMIT, STATE_LIMIT};
 // The first line, `P4` and its end, takes so many bytes.
 const MAGIC_BYTES: usize = 3;
 
+const MAGIC: [u8; MAGIC_BYTES] = *b"P4\n";
+
 // The bytes of the longest header and of the largest table: both numbers have four digits, and behind each stands one
 // byte.
 const MOST_DIGITS: usize = 4;
@@ -45,10 +47,8 @@ fn digit_at(n: usize, i: usize) -> u8
     ensures { result ≡ get_or (decimal n) i 0 }
 {
     let mut rest = n;
-    let mut k = digit_count(n);
-    while i + 1 < k {
+    for _ in i + 1..digit_count(n) {
         rest /= 10;
-        k -= 1;
     }
     b'0' + (rest % 10) as u8
 }
@@ -66,13 +66,7 @@ fn magic(i: usize) -> u8
     requires { i < magic_bytes }
     ensures { result ≡ get_or magic_line i 0 }
 {
-    if i == 0 {
-        return b'P';
-    }
-    if i == 1 {
-        return b'4';
-    }
-    LINE_END
+    MAGIC[i]
 }
 
 // Byte i of the header.
@@ -102,11 +96,8 @@ pub fn write_header(table: &mut [u8], w: usize, h: usize)
     requires { (w ≤ state_limit) × ((h ≤ state_limit) × (header_bytes w h ≤ length table.old)) }
     ensures { table.new ≡ header w h ++ drop (header_bytes w h) table.old }
 {
-    let size = header_length(w, h);
-    let mut i: usize = 0;
-    while i < size {
+    for i in 0..header_length(w, h) {
         table[i] = header_byte(w, h, i);
-        i += 1;
     }
 }
 
@@ -119,14 +110,10 @@ pub fn has_header(table: &[u8], w: usize, h: usize) -> bool
     if table.len() < size {
         return false;
     }
-    let mut i: usize = 0;
-    while i < size {
-        let given = table[i];
-        let due = header_byte(w, h, i);
-        if given != due {
+    for i in 0..size {
+        if table[i] != header_byte(w, h, i) {
             return false;
         }
-        i += 1;
     }
     true
 }
@@ -140,12 +127,10 @@ pub fn table_length(w: usize, h: usize) -> usize
 }
 
 // Code 16 does not apply (SPECIFICATION 13.1): the header and the total length are those of w right and h left states.
+#[tactic(auto, unfolding(crate::specs::Header::fits))]
 pub fn is_table(table: &[u8], w: usize, h: usize) -> bool
     requires { (w ≤ state_limit) × (h ≤ state_limit) }
     ensures { result ≡ fits w h table.now }
 {
-    if !has_header(table, w, h) {
-        return false;
-    }
-    table.len() == table_length(w, h)
+    has_header(table, w, h) && table.len() == table_length(w, h)
 }

@@ -8,6 +8,7 @@ ghost use Rattle.bitmaps.specs.Packed.{bytes_for};
 ghost use Rattle.tables_prune.specs.Prune.{kept_of, Pruned};
 
 // The move to t, if t is a state of keep.
+#[tactic(auto, unfolding(crate::specs::Prune::kept_of))]
 fn kept(keep: &[u8], t: u16) -> u16
     requires { (t ≡ no_move → ⊥) → t / 8 < length keep.now }
     ensures { result ≡ kept_of (bit_at keep.now) t }
@@ -26,10 +27,7 @@ pub fn prune(moves: &mut [u16], keep: &[u8], n: usize, steps: usize)
     requires { Bounded n steps moves.old × (bytes_for n ≤ length keep.now) }
     ensures { Pruned n steps keep.now moves.old moves.new }
 {
-    let all = n * steps;
-    let mut i: usize = 0;
-    while i < all {
+    for i in 0..n * steps {
         moves[i] = kept(keep, moves[i]);
-        i += 1;
     }
 }

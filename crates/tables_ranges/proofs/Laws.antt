@@ -8,15 +8,19 @@ use native.Mathlib.Nat.{le_refl, zero-div}
 use native.Mathlib.Decide.{ℕ_discrete}
 use native.Mathlib.Omega.{arith}
 use lib.Dec.{eqb, leb}
-use lib.Bits.{bit_and, bit_or, and_le_l, and_zero_r}
+use lib.Bits.{bit_and, bit_or, and_le_l}
 use lib.Pow.{shr-shr}
 use borrow.Author.Tests.{le-leb, lt-leb}
-use lib.ListN.{length, get_or, set, length-set}
+use lib.ListN.{length, get_or, set, take, drop, length-set}
+use mathlib.Core.List.{◌++◌}
+use Rattle.std.specs.Prelude.{replicate}
+use Rattle.std.proofs.lemmas.List.{length-replicate, get_or-replicate}
 use lib.Seq.{get_or-set_same, get_or-set_other}
 use Rattle.bitmaps.specs.Bits.{bit_at}
 use Rattle.bitmaps.specs.BitLaws.{eight, less}
 use Rattle.tables_ranges.specs.Cut.{Cut, from_bit, bit_in, Eight, FullFrom}
 use Rattle.tables_ranges.specs.ByteLaws.{two, and_bit, or_bit}
+use Rattle.tables_ranges.proofs.Mid.{mid_length, mid_in, mid_before, mid_after}
 use Rattle.tables_ranges.specs.CutLaws.{and_true, cut_none, cut_join, cut_same}
 
 -- a bit of `>>`
@@ -55,6 +59,10 @@ full_from n l m h =
   where
     set_bit : (x : ℕ) → x < 8 → eqb (255 / 2 ^ x % 2) 1 ≡ true
     set_bit = eight (λ x. eqb (255 / 2 ^ x % 2) 1 ≡ true) refl refl refl refl refl refl refl refl
+
+and_false : (b : Bool) → (b && false) ≡ false
+and_false true = refl
+and_false false = refl
 
 or_true : (b : Bool) → (b || true) ≡ true
 or_true true = refl
@@ -194,11 +202,6 @@ unfolding from_bit
 cut_eight k s j i v y h E = cut_byte k (j + i) y h (from_bit s (8 * j) v)
     (λ x d. let e : v + 8 * i + x % 8 ≡ v + (x - 8 * j) = omega arith in E (x % 8) (omega arith) ∙ ap (bit_at s) e)
 
--- a byte that is set to 0
-pub cut_zero : (k : List ℕ) (j : ℕ) → j < length k → Cut (8 * j) (8 * j + 8) (λ (i : ℕ). false) k (set k j 0)
-cut_zero k j h = subst (λ (x : ℕ). Cut (8 * j) (8 * j + 8) (λ (i : ℕ). false) k (set k j x)) (and_zero_r (get_or k j 0))
-    (cut_byte k j 0 h (λ (i : ℕ). false) (λ i d. no_bit (i % 8)))
-
 -- the bits of the source that meet a part of a byte
 pub part_bit : (s : List ℕ) (a v y i : ℕ) → Eight s v y → a ≤ i → i < 8 * (a / 8) + 8
     → bit_in (y / 2 ^ (a % 8)) (i % 8) ≡ from_bit s a v i
@@ -232,3 +235,35 @@ pub three_parts : {k k₁ k₂ k₃ : List ℕ} (s : List ℕ) (a b g e v : ℕ)
 three_parts s a b g e v l m n C D E =
     cut_join (omega arith) n (cut_join l m C (cut_same (λ i p q. from_later s a v b i l p) D))
     (cut_same (λ i p q. from_later s a v g i (omega arith) p) E)
+
+-- m whole bytes from byte j on, replaced by as many of 0
+module _ (k x : List ℕ) (j m : ℕ) (room : j + m ≤ length k) (zeros : x ≡ replicate m 0) where
+  abbrev cleared : List ℕ
+  cleared = take j k ++ (x ++ drop m (drop j k))
+
+  long : length x ≡ m
+  long = ap length zeros ∙ length-replicate m 0
+
+  zero_in : (q : ℕ) → j ≤ q → q < j + m → get_or cleared q 0 ≡ 0
+  zero_in q a b = mid_in k x j m room long q a b ∙ ap (λ (l : List ℕ). get_or l (q - j) 0) zeros
+      ∙ get_or-replicate m (q - j) 0 0 (omega arith)
+
+  same_out : (q : ℕ) → (q < j) ⊎ (j + m ≤ q) → get_or cleared q 0 ≡ get_or k q 0
+  same_out q (inl a) = mid_before k x j m room long q a
+  same_out q (inr a) = mid_after k x j m room long q a
+
+  falls_at : (q : ℕ) → get_or cleared q 0 ≤ get_or k q 0
+  falls_at q = ⊎_elim
+      (λ a. omega (arith, same_out q (inl a)))
+      (λ a. ⊎_elim (λ b. omega (arith, zero_in q a b)) (λ b. omega (arith, same_out q (inr b))) (less q (j + m)))
+      (less q j)
+
+  pub cut_cleared : Cut (8 * j) (8 * j + 8 * m) (λ (i : ℕ). false) k cleared
+  unfolding bit_at bit_in
+  cut_cleared = record {
+    sized = mid_length k x j m room long;
+    inside = λ i p q. rw (zero_in (i / 8) (omega arith) (omega arith)) (no_bit (i % 8) ∙ sym (and_false (bit_at k i)));
+    outside = λ i p. ap (λ (y : ℕ). bit_in y (i % 8))
+        (same_out (i / 8) (⊎_elim (λ a. inl (omega arith)) (λ a. inr (omega arith)) p));
+    falls = falls_at;
+  }

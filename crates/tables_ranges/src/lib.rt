@@ -79,10 +79,8 @@ fn and_whole(row: &mut [u8], source: &[u8], j: usize, m: usize, q: usize)
     ensures { Cut (8 * j) (8 * j + 8 * m) (from_bit source.now (8 * j) (8 * q)) row.old
         row.new }
 {
-    let mut i: usize = 0;
-    while i < m {
+    for i in 0..m {
         row[j + i] = row[j + i] & source[q + i];
-        i += 1;
     }
 }
 
@@ -96,11 +94,9 @@ fn and_shifted(row: &mut [u8], source: &[u8], j: usize, m: usize, v: usize)
 {
     let q = v / 8;
     let n = v % 8;
-    let mut i: usize = 0;
-    while i < m {
+    for i in 0..m {
         let y = shifted(source[q + i], source[q + i + 1], n);
         row[j + i] = row[j + i] & y;
-        i += 1;
     }
 }
 
@@ -155,11 +151,7 @@ fn clear_bytes(row: &mut [u8], j: usize, m: usize)
     requires { (j + m ≤ keep_limit) × (j + m ≤ length row.old) }
     ensures { Cut (8 * j) (8 * j + 8 * m) (λ (i : ℕ). false) row.old row.new }
 {
-    let mut i: usize = 0;
-    while i < m {
-        row[j + i] = 0;
-        i += 1;
-    }
+    row[j..j + m].fill(0);
 }
 
 // Takes away bits a to e of the row.

@@ -2,12 +2,9 @@
 #![tactic(auto)]
 
 ghost use Rattle.std.specs.Prelude.{◌≡◌, ℕ, ◌+◌, ◌-◌, ◌*◌, ◌/◌, ◌%◌, ◌≤◌, ◌<◌, length, get_or};
-ghost use Rattle.limits.specs.Limits.{move_limit, few_moves};
 ghost use Rattle.move_tables.specs.Moves.{Bounded};
 ghost use Rattle.tables_ranges.specs.Cut.{Cut};
 ghost use Rattle.tables_runs.specs.Runs.{Run, Runs, Within, Blank, landing};
-
-use limits::{FEW_MOVES, MOVE_LIMIT};
 
 // A run of one state, and a run of two states that go to states in a row.
 const ONE_STATE: u16 = 2;
@@ -59,26 +56,9 @@ fn step_runs(runs: &mut [u16], rm: &[u16], w: usize, steps: usize, c: usize)
         × ((i : ℕ) → i < c * w → get_or runs.new i 0 ≡ get_or runs.old i 0) }
 {
     let base = c * w;
-    let mut t = w;
-    while 0 < t {
-        t -= 1;
-        let e = run_at(runs, rm, w, steps, c, t);
-        runs[base + t] = e;
+    for t in (0..w).rev() {
+        runs[base + t] = run_at(runs, rm, w, steps, c, t);
     }
-}
-
-// Room for the runs of every text, and for those of a text of few states, behind functions because antt must not unfold
-// arrays of this length.
-pub fn runs_for_any_text() -> [u16; MOVE_LIMIT]
-    ensures { length result ≡ move_limit }
-{
-    [0; MOVE_LIMIT]
-}
-
-pub fn runs_for_few_states() -> [u16; FEW_MOVES]
-    ensures { length result ≡ few_moves }
-{
-    [0; FEW_MOVES]
 }
 
 // The runs of every step, step by step: entry c * w + t is that of step c from state t on.
@@ -86,21 +66,9 @@ pub fn find_runs(runs: &mut [u16], rm: &[u16], w: usize, steps: usize)
     requires { Bounded w steps rm.now × (steps * w ≤ length runs.old) }
     ensures { Runs rm.now w steps runs.new }
 {
-    let mut c: usize = 0;
-    while c < steps {
+    for c in 0..steps {
         step_runs(runs, rm, w, steps, c);
-        c += 1;
     }
-}
-
-// The smaller of two numbers.
-pub fn least(a: usize, b: usize) -> usize
-    ensures { (result ≤ a) × ((result ≤ b) × ((i : ℕ) → i < a → i < b → i < result)) }
-{
-    if a < b {
-        return a;
-    }
-    b
 }
 
 // The first byte from byte a on and before byte e that is not 0, e if all are.
@@ -108,14 +76,12 @@ pub fn first_byte(row: &[u8], a: usize, e: usize) -> usize
     requires { (a ≤ e) × (e ≤ length row.now) }
     ensures { (a ≤ result) × ((result ≤ e) × Blank row.now a result) }
 {
-    let mut j = a;
-    while j < e {
+    for j in a..e {
         if row[j] != 0 {
             return j;
         }
-        j += 1;
     }
-    j
+    e
 }
 
 // A run of at most so many states is short: where the byte of its first state has no bit set, that byte is passed over,
@@ -175,7 +141,7 @@ fn cut_from(
     if e <= 2 * SHORT_RUN {
         if row[t / 8] == 0 {
             let b = bitmaps::bytes_for(w);
-            return least(w, 8 * first_byte(row, t / 8 + 1, b));
+            return w.min(8 * first_byte(row, t / 8 + 1, b));
         }
     }
     run_step(row, source, rm, w, steps, c, t, e);

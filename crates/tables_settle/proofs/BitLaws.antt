@@ -7,7 +7,7 @@ use Prim.Native.Nat.{ℕ, zero, suc, ◌+◌, ◌-◌, ◌*◌, ◌/◌, ◌%◌
 use native.Mathlib.Omega.{arith}
 use lib.Dec.{eqb}
 use lib.ListN.{length, get_or, get_or-eq_default}
-use Rattle.systems.specs.Tests.{at, table}
+use Rattle.systems.specs.Tests.{at}
 use Rattle.bitmaps.specs.Bits.{bit_at, num, byte_of}
 use Rattle.bitmaps.specs.BitLaws.{written_is, less}
 use Rattle.bitmaps.specs.Packed.{packed, bytes_for}

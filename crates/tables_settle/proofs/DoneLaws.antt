@@ -1,15 +1,15 @@
 -- The end of the removal: every row is quiet, so no pair that is left breaks a rule.
 use mathlib.Core.Path.{◌≡◌, sym, subst, ◌∙◌}
 use mathlib.Core.Logic.{⊎_elim}
-use mathlib.Core.Bool.{Bool, true, false}
-use mathlib.Core.List.{List, [], ◌∷◌}
+use mathlib.Core.Bool.{Bool, false}
+use mathlib.Core.List.{List}
 use Prim.Native.Nat.{ℕ, ◌+◌, ◌*◌, ◌/◌, ◌%◌, ◌≤◌, ◌<◌}
 use native.Mathlib.Nat.{div-add-mod', mod-lt, div-lt_iff_lt-mul}
 use native.Mathlib.Omega.{arith}
 use lib.Dec.{T}
 use lib.ListN.{length, get_or, get_or-eq_default}
 use Rattle.systems.specs.Bools.{stays_elim, lands_elim}
-use Rattle.systems.specs.Tests.{at, ones, lands, stage}
+use Rattle.systems.specs.Tests.{at, lands, stage}
 use Rattle.systems.proofs.Sieve.{Between, between_done, length_stage, same_table, ones_le}
 use Rattle.systems.specs.Definitions.{Signature}
 use Rattle.systems.specs.Finite.{FiniteSystem, pruned, pair_ok, cell}

@@ -13,7 +13,7 @@ use lib.Arith.{digits_lt}
 use lib.ListN.{length, get_or, set}
 use lib.Seq.{get_or-set_same, get_or-set_other}
 use Rattle.systems.specs.Bools.{none_some, stays_same, lands_same}
-use Rattle.systems.specs.Tests.{at, lands, table}
+use Rattle.systems.specs.Tests.{at, lands}
 use Rattle.systems.proofs.Sieve.{Between, at_table}
 use Rattle.systems.specs.Definitions.{Signature}
 use Rattle.systems.specs.Finite.{FiniteSystem}

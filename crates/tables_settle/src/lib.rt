@@ -22,15 +22,13 @@ fn is_due(lm: &[u16], stamps: &[u32], sides: Sides, s: usize, seen: u32) -> bool
     ensures { result ≡ false → Quiet lm.now sides.steps stamps.now s seen }
 {
     let a = s * sides.steps;
-    let mut c: usize = 0;
-    while c < sides.steps {
+    for c in 0..sides.steps {
         let u = lm[a + c] as usize;
         if u != move_tables::NO_TARGET {
             if seen < stamps[u] {
                 return true;
             }
         }
-        c += 1;
     }
     false
 }
@@ -93,9 +91,7 @@ fn sweep(
         result }
 {
     let mut late = progress;
-    let mut s = sides.left_states;
-    while 0 < s {
-        s -= 1;
+    for s in (0..sides.left_states).rev() {
         late = turn(
             raster, seen, stamps, row, lm, rm, runs, classes, masks, sides, s, late,
         );
@@ -152,9 +148,7 @@ fn hurry(
     let n = sides.left_states;
     let mut late = progress;
     let mut i: usize = 0;
-    let mut left = MOST_TURNS;
-    while 0 < left {
-        left -= 1;
+    for _ in 0..MOST_TURNS {
         if n <= i {
             return late;
         }

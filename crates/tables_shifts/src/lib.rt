@@ -4,7 +4,7 @@
 
 ghost use Rattle.std.specs.Prelude.{◌≡◌, true, ◌&&◌, ◌||◌, ℕ, ◌+◌, ◌-◌, ◌*◌, ◌/◌, ◌%◌, ◌≤◌, ◌<◌, length, get_or};
 ghost use Rattle.std.specs.Int.Bits.{bit_or};
-ghost use Rattle.limits.specs.Limits.{state_limit, step_limit, keep_limit, few_states};
+ghost use Rattle.limits.specs.Limits.{state_limit, step_limit, keep_limit};
 ghost use Rattle.bitmaps.specs.Bits.{bit_at};
 ghost use Rattle.bitmaps.specs.Packed.{bytes_for};
 ghost use Rattle.move_tables.specs.Moves.{no_move, Bounded};
@@ -31,11 +31,11 @@ const TARGET: usize = 3;
 const CLASS_ENTRIES: usize = 1 + CLASS_NUMBERS * CLASS_LIMIT;
 
 // The numbers of all steps, and the bytes of their masks, for all texts and for those of few states.
-const ALL_ENTRIES: usize = STEP_LIMIT * CLASS_ENTRIES;
+pub const ALL_ENTRIES: usize = STEP_LIMIT * CLASS_ENTRIES;
 
-const MASK_LIMIT: usize = STEP_LIMIT * CLASS_LIMIT * KEEP_LIMIT;
+pub const MASK_LIMIT: usize = STEP_LIMIT * CLASS_LIMIT * KEEP_LIMIT;
 
-const FEW_MASK_BYTES: usize = STEP_LIMIT * CLASS_LIMIT * FEW_BYTES;
+pub const FEW_MASK_BYTES: usize = STEP_LIMIT * CLASS_LIMIT * FEW_BYTES;
 
 // A step of fewer runs than this is done by runs, and so is one with fewer runs for each class than RUNS_WORTH.
 const MANY_RUNS: usize = 16;
@@ -99,12 +99,10 @@ fn class_of(classes: &[u16], c: usize, k: usize, t: usize, v: usize) -> usize
         × (((i : ℕ) → i < k → first_of classes.now c i ≤ t) × (t < state_limit)))) }
     ensures { (result ≤ k) × (result < k → leads classes.now c result t ≡ v) }
 {
-    let mut j: usize = 0;
-    while j < k {
+    for j in 0..k {
         if leads_to(classes, c, j, t, v) {
             return j;
         }
-        j += 1;
     }
     k
 }
@@ -128,11 +126,7 @@ fn clear_mask(masks: &mut [u8], j: usize, e: usize)
     requires { (j ≤ e) × (e ≤ length masks.old) }
     ensures { Filled (λ (i : ℕ). 0) j e masks.old masks.new }
 {
-    let mut i = j;
-    while i < e {
-        masks[i] = 0;
-        i += 1;
-    }
+    masks[j..e].fill(0);
 }
 
 // Class i of step c with no state in it, from state t on, which it leads to v.
@@ -234,13 +228,11 @@ fn step_classes(
         × (0 < result → Classed rm.now w steps classes.new masks.new c result w)) }
 {
     let mut p = Placed { count: 0, last: 0 };
-    let mut t: usize = 0;
-    while t < w {
+    for t in 0..w {
         p = place(classes, masks, rm, w, steps, c, t, p);
         if CLASS_LIMIT < p.count {
             return 0;
         }
-        t += 1;
     }
     p.count
 }
@@ -285,26 +277,6 @@ fn step_shifts(
     k
 }
 
-// Room for the classes of any text, and for their masks. The arrays stand behind functions because antt must not unfold
-// arrays of their lengths.
-pub fn classes_for_any_text() -> [u16; ALL_ENTRIES]
-    ensures { length result ≡ step_limit * class_entries }
-{
-    [0; ALL_ENTRIES]
-}
-
-pub fn masks_for_any_text() -> [u8; MASK_LIMIT]
-    ensures { length result ≡ step_limit * class_limit * bytes_for state_limit }
-{
-    [0; MASK_LIMIT]
-}
-
-pub fn masks_for_few_states() -> [u8; FEW_MASK_BYTES]
-    ensures { length result ≡ step_limit * class_limit * bytes_for few_states }
-{
-    [0; FEW_MASK_BYTES]
-}
-
 // The classes of every step that gains by them.
 pub fn find_shifts(
     classes: &mut [u16],
@@ -318,11 +290,9 @@ pub fn find_shifts(
         × Room w steps classes.old masks.old) }
     ensures { Shifts rm.now w steps classes.new masks.new }
 {
-    let mut c: usize = 0;
-    while c < steps {
+    for c in 0..steps {
         let k = step_shifts(classes, masks, rm, runs, w, steps, c);
         classes[c * CLASS_ENTRIES] = k as u16;
-        c += 1;
     }
 }
 
@@ -347,11 +317,7 @@ fn copy_mask(row: &mut [u8], masks: &[u8], at: usize, j: usize, e: usize)
     ensures { Filled (λ (i : ℕ). get_or masks.now (at + i) 0) j e row.old
         row.new }
 {
-    let mut i = j;
-    while i < e {
-        row[i] = masks[at + i];
-        i += 1;
-    }
+    row[j..e].copy_from_slice(&masks[at + j..at + e]);
 }
 
 // The bytes j to e of a row, joined with those of another.
@@ -360,10 +326,8 @@ fn or_bytes(row: &mut [u8], other: &[u8], j: usize, e: usize)
     ensures { Filled (λ (i : ℕ). bit_or (get_or row.old i 0) (get_or other.now i 0)) j e
         row.old row.new }
 {
-    let mut i = j;
-    while i < e {
+    for i in j..e {
         row[i] = row[i] | other[i];
-        i += 1;
     }
 }
 
@@ -419,8 +383,7 @@ pub fn row_step(
     let mut landed = no_row();
     let mut part = no_row();
     let count = number(classes, c * CLASS_ENTRIES);
-    let mut i: usize = 0;
-    while i < count {
+    for i in 0..count {
         join_class(
             &mut landed,
             &mut part,
@@ -433,7 +396,6 @@ pub fn row_step(
             c,
             i,
         );
-        i += 1;
     }
     tables_ranges::and_range(row, &landed, 0, w, 0);
 }

@@ -51,13 +51,11 @@ fn cut_row(
 {
     let n = sides.left_states;
     let steps = sides.steps;
-    let mut c: usize = 0;
-    while c < steps {
+    for c in 0..steps {
         let u = lm[s * steps + c] as usize;
         if !is_old(stamps, n, u, seen) {
             tables_cut::cut_by_step(row, raster, lm, rm, runs, classes, masks, sides, s, c, span);
         }
-        c += 1;
     }
 }
 

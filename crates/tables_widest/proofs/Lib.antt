@@ -1,3 +1,2 @@
-pub mod RoomLaws
 pub mod StartLaws
 pub mod WholeLaws

@@ -1,16 +1,8 @@
 -- The slices in which the widest table is made.
 use Rattle.std.specs.Prelude.{◌≡◌, List, ℕ, ◌*◌, ◌≤◌, length, get_or}
-use Rattle.limits.specs.Limits.{step_limit, keep_limit, few_bytes}
 use Rattle.bitmaps.specs.Packed.{bytes_for}
 use Rattle.move_tables.specs.declared.Sides.{Sides}
 use Rattle.tables_shifts.specs.Shifts.{Room as ShiftsRoom}
-
--- the bytes of a row for each step, for all texts and for those of few states
-abbrev pub rows_limit : ℕ
-rows_limit = step_limit * keep_limit
-
-abbrev pub few_rows : ℕ
-few_rows = step_limit * few_bytes
 
 -- each is long enough, and no row has been looked at
 pub record Room (sides : Sides) (raster rows seen stamps runs classes masks order first met : List ℕ) : Type 0 where

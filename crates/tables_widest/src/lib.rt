@@ -1,16 +1,18 @@
 // The widest table: of all pairs those that break a rule are taken out, row by row, until none does.
 #![tactic(auto)]
 
-ghost use Rattle.std.specs.Prelude.{◌≡◌, ℕ, ◌*◌, ◌≤◌, ◌<◌, length, get_or};
-ghost use Rattle.limits.specs.Limits.{state_limit, few_states};
+ghost use Rattle.std.specs.Prelude.{◌≡◌, ◌*◌, ◌≤◌, length};
+ghost use Rattle.limits.specs.Limits.{state_limit, step_limit};
 ghost use Rattle.bitmaps.specs.Packed.{bytes_for};
 ghost use Rattle.tables_rows.specs.Given.{Slices};
-ghost use Rattle.tables_widest.specs.Room.{rows_limit, few_rows, Room};
+ghost use Rattle.tables_shifts.specs.Shifts.{class_limit, class_entries};
+ghost use Rattle.tables_widest.specs.Room.{Room};
 ghost use Rattle.tables_widest.specs.Whole.{WidestAnswers};
 
-use limits::{FEW_BYTES, FEW_STATES, KEEP_LIMIT, STATE_LIMIT, STEP_LIMIT};
+use limits::{FEW_BYTES, FEW_MOVES, FEW_STATES, KEEP_LIMIT, MOVE_LIMIT, STATE_LIMIT, STEP_LIMIT};
 use move_tables::Sides;
 use tables_settle::Progress;
+use tables_shifts::{ALL_ENTRIES, FEW_MASK_BYTES, MASK_LIMIT};
 
 // The number of pairs set, and whether the start pair is one of them.
 #[derive(Clone, Copy)]
@@ -67,68 +69,31 @@ const ROWS_LIMIT: usize = STEP_LIMIT * KEEP_LIMIT;
 
 const FEW_ROWS: usize = STEP_LIMIT * FEW_BYTES;
 
-// The arrays stand behind functions because antt must not unfold arrays of their lengths.
-fn rows() -> [u8; ROWS_LIMIT]
-    ensures { length result ≡ rows_limit }
-{
-    [0; ROWS_LIMIT]
-}
-
-// No row has been looked at yet.
-fn times() -> [u32; STATE_LIMIT]
-    ensures { (length result ≡ state_limit) × ((i : ℕ) → get_or result i 0 ≡ 0) }
-{
-    [0; STATE_LIMIT]
-}
-
-fn places() -> [u16; STATE_LIMIT]
-    ensures { length result ≡ state_limit }
-{
-    [0; STATE_LIMIT]
-}
-
-// The same for few states.
-fn few_rows() -> [u8; FEW_ROWS]
-    ensures { length result ≡ few_rows }
-{
-    [0; FEW_ROWS]
-}
-
-fn few_times() -> [u32; FEW_STATES]
-    ensures { (length result ≡ few_states) × ((i : ℕ) → get_or result i 0 ≡ 0) }
-{
-    [0; FEW_STATES]
-}
-
-fn few_places() -> [u16; FEW_STATES]
-    ensures { length result ≡ few_states }
-{
-    [0; FEW_STATES]
-}
-
-// The widest table of any two texts.
-fn widest_of_many(
-    raster: &mut [u8],
-    keep: &[u8],
-    holds: &[u8],
-    lm: &[u16],
-    rm: &[u16],
-    sides: Sides,
-) -> WidestTable
-    requires { Slices keep.now holds.now lm.now rm.now sides
-        × (sides.left_states * bytes_for sides.right_states ≤ length raster.old) }
+// The widest table of two texts of at most STATES states, in arrays for so many.
+fn widest_within<
+    const STATES: usize,
+    const ROWS: usize,
+    const MOVES: usize,
+    const ENTRIES: usize,
+    const MASKS: usize,
+>(raster: &mut [u8], keep: &[u8], holds: &[u8], lm: &[u16], rm: &[u16], sides: Sides) -> WidestTable
+    requires given { Slices keep.now holds.now lm.now rm.now sides }
+    requires room { sides.left_states * bytes_for sides.right_states ≤ length raster.old }
+    requires few { (sides.left_states ≤ STATES) × ((sides.right_states ≤ STATES) × (STATES ≤ state_limit)) }
+    requires sizes { (ROWS ≡ step_limit * bytes_for STATES) × ((MOVES ≡ STATES * step_limit)
+        × ((ENTRIES ≡ step_limit * class_entries) × (MASKS ≡ step_limit * class_limit * bytes_for STATES))) }
     ensures { WidestAnswers keep.now holds.now lm.now rm.now sides
         raster.old raster.new result.count result.start }
 {
-    let mut rows = rows();
-    let mut seen = times();
-    let mut stamps = times();
-    let mut runs = tables_runs::runs_for_any_text();
-    let mut classes = tables_shifts::classes_for_any_text();
-    let mut masks = tables_shifts::masks_for_any_text();
-    let mut order = places();
-    let mut first = places();
-    let mut met = places();
+    let mut rows = [0; ROWS];
+    let mut seen = [0; STATES];
+    let mut stamps = [0; STATES];
+    let mut runs = [0; MOVES];
+    let mut classes = [0; ENTRIES];
+    let mut masks = [0; MASKS];
+    let mut order = [0; STATES];
+    let mut first = [0; STATES];
+    let mut met = [0; STATES];
     widest_with(
         raster,
         &mut rows,
@@ -148,50 +113,8 @@ fn widest_of_many(
     )
 }
 
-// The widest table of two texts of few states: the large arrays would take longer to make than their table.
-fn widest_of_few(
-    raster: &mut [u8],
-    keep: &[u8],
-    holds: &[u8],
-    lm: &[u16],
-    rm: &[u16],
-    sides: Sides,
-) -> WidestTable
-    requires { Slices keep.now holds.now lm.now rm.now sides
-        × ((sides.left_states * bytes_for sides.right_states ≤ length raster.old)
-        × ((sides.left_states ≤ few_states) × (sides.right_states ≤ few_states))) }
-    ensures { WidestAnswers keep.now holds.now lm.now rm.now sides
-        raster.old raster.new result.count result.start }
-{
-    let mut rows = few_rows();
-    let mut seen = few_times();
-    let mut stamps = few_times();
-    let mut runs = tables_runs::runs_for_few_states();
-    let mut classes = tables_shifts::classes_for_any_text();
-    let mut masks = tables_shifts::masks_for_few_states();
-    let mut order = few_places();
-    let mut first = few_places();
-    let mut met = few_places();
-    widest_with(
-        raster,
-        &mut rows,
-        &mut seen,
-        &mut stamps,
-        &mut runs,
-        &mut classes,
-        &mut masks,
-        &mut order,
-        &mut first,
-        &mut met,
-        keep,
-        holds,
-        lm,
-        rm,
-        sides,
-    )
-}
-
-// The widest table: it is written to the raster; the pairs set and whether the start pair is one are returned.
+// The widest table: it is written to the raster; the pairs set and whether the start pair is one are returned. The large
+// arrays would take longer to make than the table of few states.
 pub fn widest(
     raster: &mut [u8],
     keep: &[u8],
@@ -207,8 +130,12 @@ pub fn widest(
 {
     if sides.left_states <= FEW_STATES {
         if sides.right_states <= FEW_STATES {
-            return widest_of_few(raster, keep, holds, lm, rm, sides);
+            return widest_within::<FEW_STATES, FEW_ROWS, FEW_MOVES, ALL_ENTRIES, FEW_MASK_BYTES>(
+                raster, keep, holds, lm, rm, sides,
+            );
         }
     }
-    widest_of_many(raster, keep, holds, lm, rm, sides)
+    widest_within::<STATE_LIMIT, ROWS_LIMIT, MOVE_LIMIT, ALL_ENTRIES, MASK_LIMIT>(
+        raster, keep, holds, lm, rm, sides,
+    )
 }

@@ -3,14 +3,12 @@
 // an independent reading of docs/SPECIFICATION.md.
 #![tactic(auto)]
 
-ghost use Rattle.std.specs.Prelude.{◌≤◌, length};
-
-use refusals::{Refusal, Verdict};
-use safe_states::SafeAnswer;
+use refusals::Refusal;
 use std::io;
+use test_input::put_refusal;
 
-// The byte after a tick length and after a text.
-const BETWEEN: u8 = b'#';
+// The room of the input.
+const INPUT_ROOM: usize = 262144;
 
 // What a keep is filled with before the operation, so that bytes that it leaves alone are seen.
 const FILL: u8 = 170;
@@ -18,41 +16,27 @@ const FILL: u8 = 170;
 // How many bytes of a keep with room for every text are shown.
 const SHOWN: usize = 7;
 
-fn put(rt: &impl Print, n: usize) -> io::Result<()> {
-    print!(rt; " {n}")
-}
-
-fn refusal(rt: &impl Print, f: Refusal) -> io::Result<()> {
+fn put_refused(rt: &impl Print, f: &Refusal) -> io::Result<()> {
     rt.print(" refused")?;
-    put(rt, f.code)?;
-    put(rt, f.file)?;
-    put(rt, f.p)?;
-    put(rt, f.q)
+    put_refusal(rt, f)
 }
 
 // What reading gives: the refusal, or the state count.
 fn show_read(rt: &impl Print, period: usize, text: &[u8]) -> io::Result<()> {
-    let r = operations::read(period, text);
-    match r.answer {
-        Verdict::Refused(f) => refusal(rt, f),
-        Verdict::Accepted => {
-            rt.print(" states")?;
-            put(rt, r.states)
+    match operations::read(period, text) {
+        Ok(r) => {
+            let states = r.states;
+            print!(rt; " states {states}")
         }
+        Err(f) => put_refused(rt, &f),
     }
 }
 
-fn show_flag(rt: &impl Print, b: bool) -> io::Result<()> {
-    rt.print(if b { " yes" } else { " no" })
-}
-
-// The first n bytes.
-fn show_bytes(rt: &impl Print, s: &[u8], n: usize) -> io::Result<()>
-    requires { n ≤ length s.now }
-{
+// The first bytes of a keep.
+fn show_bytes(rt: &impl Print, keep: &[u8]) -> io::Result<()> {
     rt.print(" keep")?;
-    for i in 0..n {
-        put(rt, s[i] as usize)?;
+    for byte in keep.iter().take(SHOWN) {
+        print!(rt; " {byte}")?;
     }
     Ok(())
 }
@@ -60,44 +44,28 @@ fn show_bytes(rt: &impl Print, s: &[u8], n: usize) -> io::Result<()>
 // What the safe-state operation gives.
 fn show_safe(rt: &impl Print, period: usize, text: &[u8], keep: &mut [u8]) -> io::Result<()> {
     match operations::safe_states(period, text, keep) {
-        SafeAnswer::Refused(f) => refusal(rt, f),
-        SafeAnswer::Found(count, start) => {
-            rt.print(" safe")?;
-            put(rt, count)?;
-            show_flag(rt, start)
+        Ok(safe) => {
+            let count = safe.count;
+            let start = if safe.start { "yes" } else { "no" };
+            print!(rt; " safe {count} {start}")?;
         }
+        Err(f) => put_refused(rt, &f)?,
     }
+    show_bytes(rt, keep)
 }
 
 // One text: reading, the operation with a keep of one byte, and with one with room for every text, whose first bytes are shown.
 fn show(rt: &impl Print, period: usize, text: &[u8]) -> io::Result<()> {
     show_read(rt, period, text)?;
     rt.print(" |")?;
-    let mut short = [FILL; 1];
-    show_safe(rt, period, text, &mut short)?;
-    show_bytes(rt, &short, 1)?;
+    show_safe(rt, period, text, &mut [FILL; 1])?;
     rt.print(" |")?;
-    let mut keep = [FILL; limits::KEEP_LIMIT];
-    show_safe(rt, period, text, &mut keep)?;
-    show_bytes(rt, &keep, SHOWN)?;
+    show_safe(rt, period, text, &mut [FILL; limits::KEEP_LIMIT])?;
     rt.print("\n")
 }
 
-fn show_all(rt: &impl Print, s: &[u8]) -> io::Result<()> {
-    let mut from: usize = 0;
-    while from < s.len() {
-        let middle = test_input::end_of(s, from, BETWEEN);
-        let start = test_input::after(s, from, middle);
-        let end = test_input::end_of(s, start, BETWEEN);
-        let period = test_input::decimal(&s[from..middle]);
-        show(rt, period, &s[start..end])?;
-        from = test_input::after(s, from, end);
-    }
-    Ok(())
-}
-
 fn main(rt: HostRuntime) -> io::Result<()> {
-    let mut buf = test_input::room();
+    let mut buf = programs::room::<INPUT_ROOM>();
     let n = programs::read_input(&rt, &mut buf);
-    show_all(&rt, &buf[..n])
+    test_input::for_each_case(&buf[..n], |period, text| show(&rt, period, text))
 }

@@ -4,63 +4,36 @@
 // reading of docs/SPECIFICATION.md.
 #![tactic(auto)]
 
-use enumerator::moves::{ACCEPTED, accepted, same};
-use refusals::{Refusal, Verdict};
+use refusals::Refusal;
 use std::io;
 
-// The byte after a tick length and after a text.
-const BETWEEN: u8 = b'#';
+// The room of the input.
+const INPUT_ROOM: usize = 262144;
 
-fn put_number(rt: &impl Print, n: usize) -> io::Result<()> {
-    print!(rt; " {n}")
-}
-
-fn put_answer(rt: &impl Print, f: Refusal) -> io::Result<()> {
-    if f.code == ACCEPTED {
-        return rt.print("yes");
+fn put_answer(rt: &impl Print, answer: &Result<(), Refusal>) -> io::Result<()> {
+    match answer {
+        Ok(()) => rt.print("yes"),
+        Err(f) => {
+            rt.print("refused")?;
+            test_input::put_refusal(rt, f)
+        }
     }
-    rt.print("refused")?;
-    put_number(rt, f.code)?;
-    put_number(rt, f.file)?;
-    put_number(rt, f.p)?;
-    put_number(rt, f.q)
 }
 
-fn put_agreement(rt: &impl Print, is_same: bool) -> io::Result<()> {
-    rt.println(if is_same { " same" } else { " differs" })
-}
-
-// What the operation answers.
-fn answer(period: usize, text: &[u8]) -> Refusal {
-    let v = operations::implementation(period, text);
-    match v {
-        Verdict::Refused(f) => f,
-        Verdict::Accepted => accepted(),
-    }
+// What the enumerator answers.
+fn expected(period: usize, text: &[u8]) -> Result<(), Refusal> {
+    enumerator::reached::implementation(&enumerator::safe::read(period, text)?)
 }
 
 fn show(rt: &impl Print, period: usize, text: &[u8]) -> io::Result<()> {
-    let got = answer(period, text);
-    let expected = enumerator::reached::implementation(enumerator::safe::read(period, text));
-    put_answer(rt, got)?;
-    put_agreement(rt, same(expected, got))
-}
-
-fn show_all(rt: &impl Print, s: &[u8]) -> io::Result<()> {
-    let mut from: usize = 0;
-    while from < s.len() {
-        let middle = test_input::end_of(s, from, BETWEEN);
-        let start = test_input::after(s, from, middle);
-        let end = test_input::end_of(s, start, BETWEEN);
-        let period = test_input::decimal(&s[from..middle]);
-        show(rt, period, &s[start..end])?;
-        from = test_input::after(s, from, end);
-    }
-    Ok(())
+    let got = operations::implementation(period, text);
+    put_answer(rt, &got)?;
+    let is_same = got == expected(period, text);
+    rt.println(if is_same { " same" } else { " differs" })
 }
 
 fn main(rt: HostRuntime) -> io::Result<()> {
-    let mut buf = test_input::room();
+    let mut buf = programs::room::<INPUT_ROOM>();
     let n = programs::read_input(&rt, &mut buf);
-    show_all(&rt, &buf[..n])
+    test_input::for_each_case(&buf[..n], |period, text| show(&rt, period, text))
 }

@@ -5,26 +5,17 @@
 // What is expected comes from tests/make_cases.py, by an independent reading of docs/SPECIFICATION.md.
 #![tactic(auto)]
 
-ghost use Rattle.std.specs.Prelude.{◌≡◌, ◌≤◌, ◌<◌, length, IfOk};
-
-use joining::JoinAnswer;
 use limits::SHORTEST_TICK;
-use refusals::{Refusal, Verdict};
-use safe_states::SafeAnswer;
-use search::SearchAnswer;
 use std::io;
-
-// The byte after each part of a case.
-const BETWEEN: u8 = b'#';
+use test_input::{BETWEEN, decimal, put_refusal};
 
 // What a slice is filled with before the operation, so that bytes that it leaves alone are seen.
 const FILL: u8 = 165;
 
-// The room of the slice that is lent; the contract below says its length. A case that does not fit is left out, and the
-// expected output then differs.
+// The room of the slice that is lent. A case that does not fit is left out, and the expected output then differs.
 const SLICE_ROOM: usize = 40000;
 
-// The room of the input; the contract below says its length.
+// The room of the input.
 const INPUT_ROOM: usize = 524288;
 
 // The room of the slices that a search borrows.
@@ -32,47 +23,34 @@ const ENTRY_ROOM: usize = 131072;
 
 const RUN_ROOM: usize = 512;
 
-fn put_number(rt: &impl Print, n: usize) -> io::Result<()> {
-    print!(rt; " {n}")
+// The parts of a case.
+const PARTS: usize = 4;
+
+// A tick length and two texts to join.
+#[derive(Clone, Copy)]
+struct Case<'a> {
+    period: usize,
+    left: &'a [u8],
+    right: &'a [u8],
 }
 
-fn put_refusal(rt: &impl Print, f: Refusal) -> io::Result<()> {
-    put_number(rt, f.code)?;
-    put_number(rt, f.file)?;
-    put_number(rt, f.p)?;
-    put_number(rt, f.q)
-}
-
-// Whether the bytes of a slice are all as they were lent.
-fn is_kept(s: &[u8]) -> bool {
-    let mut i: usize = 0;
-    while i < s.len() {
-        if s[i] != FILL {
-            return false;
-        }
-        i += 1;
-    }
-    true
-}
-
-fn put_kept(rt: &impl Print, is_kept: bool) -> io::Result<()> {
+fn put_kept(rt: &impl Print, s: &[u8]) -> io::Result<()> {
+    let is_kept = s.iter().all(|byte| *byte == FILL);
     rt.println(if is_kept { " kept" } else { " changed" })
 }
 
 // Entries to lend. They stand behind a function because antt must not unfold an array of this length.
-fn entries() -> [u32; ENTRY_ROOM]
-    ensures { length result ≡ 131072 }
-{
-    [0u32; ENTRY_ROOM]
+fn entries() -> [u32; ENTRY_ROOM] {
+    [0; ENTRY_ROOM]
 }
 
 // How many steps the joined text departs from one of the two by.
 fn put_search(rt: &impl Print, joined: &[u8], text: &[u8]) -> io::Result<()> {
-    let mut keep = [0u8; limits::KEEP_LIMIT];
+    let mut keep = [0; limits::KEEP_LIMIT];
     let mut back = entries();
     let mut line = entries();
-    let mut run = [0u32; RUN_ROOM];
-    let answer = operations::search(
+    let mut run = [0; RUN_ROOM];
+    match operations::search(
         SHORTEST_TICK,
         joined,
         text,
@@ -80,182 +58,118 @@ fn put_search(rt: &impl Print, joined: &[u8], text: &[u8]) -> io::Result<()> {
         &mut back,
         &mut line,
         &mut run,
-    );
-    match answer {
-        SearchAnswer::Refused(f) => {
+    ) {
+        Ok(steps) => print!(rt; " {steps}"),
+        Err(f) => {
             rt.print(" refused")?;
-            put_refusal(rt, f)
+            put_refusal(rt, &f)
         }
-        SearchAnswer::Found(n) => put_number(rt, n),
     }
 }
 
 // The number of safe states; whether the start is one.
 fn put_safe(rt: &impl Print, joined: &[u8]) -> io::Result<bool> {
-    let mut keep = [0u8; limits::KEEP_LIMIT];
-    let answer = operations::safe_states(SHORTEST_TICK, joined, &mut keep);
-    match answer {
-        SafeAnswer::Refused(f) => {
-            rt.print(" refused")?;
-            put_refusal(rt, f)?;
-            Ok(false)
+    let mut keep = [0; limits::KEEP_LIMIT];
+    match operations::safe_states(SHORTEST_TICK, joined, &mut keep) {
+        Ok(safe) => {
+            let count = safe.count;
+            print!(rt; " safe {count}")?;
+            Ok(safe.start)
         }
-        SafeAnswer::Found(count, start) => {
-            rt.print(" safe")?;
-            put_number(rt, count)?;
-            Ok(start)
+        Err(f) => {
+            rt.print(" refused")?;
+            put_refusal(rt, &f)?;
+            Ok(false)
         }
     }
 }
 
 // What reading the joined text gives: the refusal, or the number of states.
 fn put_read(rt: &impl Print, joined: &[u8]) -> io::Result<()> {
-    let r = operations::read(SHORTEST_TICK, joined);
-    match r.answer {
-        Verdict::Refused(f) => {
-            rt.print("again refused")?;
-            put_refusal(rt, f)
+    match operations::read(SHORTEST_TICK, joined) {
+        Ok(r) => {
+            let states = r.states;
+            print!(rt; "again states {states}")
         }
-        Verdict::Accepted => {
-            rt.print("again states")?;
-            put_number(rt, r.states)
+        Err(f) => {
+            rt.print("again refused")?;
+            put_refusal(rt, &f)
         }
     }
 }
 
 // The joined text, and what it is.
-fn show_joined(
-    rt: &impl Print,
-    period: usize,
-    left: &[u8],
-    right: &[u8],
-    joined: &[u8],
-) -> io::Result<()> {
+fn show_joined(rt: &impl Print, case: &Case, joined: &[u8]) -> io::Result<()> {
     rt.write_all(joined)?;
     put_read(rt, joined)?;
-    let start = put_safe(rt, joined)?;
-    if !start {
+    if !put_safe(rt, joined)? {
         return rt.println(" start not safe");
     }
     rt.print(" start safe")?;
-    if period == SHORTEST_TICK {
+    if case.period == SHORTEST_TICK {
         rt.print(" left")?;
-        put_search(rt, joined, left)?;
+        put_search(rt, joined, case.left)?;
         rt.print(" right")?;
-        put_search(rt, joined, right)?;
+        put_search(rt, joined, case.right)?;
     }
     rt.print("\n")
 }
 
-// What became of the bytes after the first n.
-fn put_behind(rt: &impl Print, out: &[u8], n: usize) -> io::Result<()>
-    requires { n ≤ length out.now }
-{
-    put_kept(rt, is_kept(&out[n..]))
-}
-
-fn show_written(
-    rt: &impl Print,
-    period: usize,
-    left: &[u8],
-    right: &[u8],
-    out: &[u8],
-    n: usize,
-) -> io::Result<()> {
-    rt.print("joined")?;
-    put_number(rt, n)?;
-    if out.len() < n {
-        return rt.println(" too long");
-    }
-    put_behind(rt, out, n)?;
-    show_joined(rt, period, left, right, &out[..n])
-}
-
-fn show(
-    rt: &impl Print,
-    period: usize,
-    left: &[u8],
-    right: &[u8],
-    out: &mut [u8],
-) -> io::Result<()> {
-    match operations::join(period, left, right, out) {
-        JoinAnswer::Refused(f) => {
-            rt.print("refused")?;
-            put_refusal(rt, f)?;
-            put_kept(rt, is_kept(out))
+fn show_written(rt: &impl Print, case: &Case, out: &[u8], n: usize) -> io::Result<()> {
+    print!(rt; "joined {n}")?;
+    match out.split_at_checked(n) {
+        Some((joined, behind)) => {
+            put_kept(rt, behind)?;
+            show_joined(rt, case, joined)
         }
-        JoinAnswer::Written(n) => show_written(rt, period, left, right, out, n),
+        None => rt.println(" too long"),
     }
 }
 
-// The slice to lend is the first bytes of one that is made here.
-fn slice_room() -> [u8; SLICE_ROOM]
-    ensures { length result ≡ 40000 }
-{
-    [FILL; SLICE_ROOM]
-}
-
-fn show_part(
-    rt: &impl Print,
-    period: usize,
-    left: &[u8],
-    right: &[u8],
-    n: usize,
-    room: &mut [u8],
-) -> io::Result<()> {
-    if n <= room.len() {
-        show(rt, period, left, right, &mut room[..n])?;
+fn show(rt: &impl Print, case: &Case, out: &mut [u8]) -> io::Result<()> {
+    match operations::join(case.period, case.left, case.right, out) {
+        Ok(n) => show_written(rt, case, out, n),
+        Err(f) => {
+            rt.print("refused")?;
+            put_refusal(rt, &f)?;
+            put_kept(rt, out)
+        }
     }
-    Ok(())
 }
 
-fn show_case(
-    rt: &impl Print,
-    period: usize,
-    n: usize,
-    left: &[u8],
-    right: &[u8],
-) -> io::Result<()> {
-    let mut room = slice_room();
-    show_part(rt, period, left, right, n, &mut room)
-}
-
-// The case at a place; answers where the next one begins.
-fn show_next(rt: &impl Print, s: &[u8], from: usize) -> io::Result<usize>
-    requires { from < length s.now }
-    ensures later { IfOk result (λ next. from < next) }
-    ensures within { IfOk result (λ next. next ≤ length s.now) }
-{
-    let a = test_input::end_of(s, from, BETWEEN);
-    let second = test_input::after(s, from, a);
-    let b = test_input::end_of(s, second, BETWEEN);
-    let third = test_input::after(s, from, b);
-    let c = test_input::end_of(s, third, BETWEEN);
-    let fourth = test_input::after(s, from, c);
-    let d = test_input::end_of(s, fourth, BETWEEN);
-    let period = test_input::decimal(&s[from..a]);
-    let n = test_input::decimal(&s[second..b]);
-    show_case(rt, period, n, &s[third..c], &s[fourth..d])?;
-    Ok(test_input::after(s, from, d))
+// Joins with a slice of n bytes.
+fn show_case(rt: &impl Print, case: &Case, n: usize) -> io::Result<()> {
+    let mut room = programs::room::<SLICE_ROOM>();
+    room.fill(FILL);
+    match room.get_mut(..n) {
+        Some(out) => show(rt, case, out),
+        None => Ok(()),
+    }
 }
 
 fn show_all(rt: &impl Print, s: &[u8]) -> io::Result<()> {
-    let mut from: usize = 0;
-    while from < s.len() {
-        from = show_next(rt, s, from)?;
+    let mut case = Case {
+        period: 0,
+        left: &[],
+        right: &[],
+    };
+    let mut bytes = 0;
+    for (k, part) in s.split(|byte| *byte == BETWEEN).enumerate() {
+        match k % PARTS {
+            0 => case.period = decimal(part),
+            1 => bytes = decimal(part),
+            2 => case.left = part,
+            _ => {
+                case.right = part;
+                show_case(rt, &case, bytes)?;
+            }
+        }
     }
     Ok(())
 }
 
-// It stands behind a function because antt must not unfold an array of this length.
-fn input_room() -> [u8; INPUT_ROOM]
-    ensures { length result ≡ 524288 }
-{
-    [0u8; INPUT_ROOM]
-}
-
 fn main(rt: HostRuntime) -> io::Result<()> {
-    let mut buf = input_room();
+    let mut buf = programs::room::<INPUT_ROOM>();
     let n = programs::read_input(&rt, &mut buf);
     show_all(&rt, &buf[..n])
 }

@@ -7,14 +7,11 @@
 // length.
 #![tactic(auto)]
 
-ghost use Rattle.std.specs.Prelude.{◌≡◌, ◌+◌, ◌≤◌, ◌<◌, length, IfOk};
-
-use refusals::{Refusal, Verdict};
-use safe_states::SafeAnswer;
-use search::SearchAnswer;
+use refusals::Refusal;
 use std::io;
-use tables::{CheckAnswer, WidestAnswer};
+use test_input::put_refusal;
 
+// The letters of records.
 const TEXTS: u8 = b'T';
 
 const READ: u8 = b'R';
@@ -25,25 +22,14 @@ const SEARCH: u8 = b'D';
 
 const CHECK: u8 = b'C';
 
-// The bytes of a number, lowest first; where a record's word begins, after a letter and six numbers; and where its own
-// bytes do, after the eight of the word.
-const NUMBER_BYTES: usize = 3;
-
-const WORD_PLACE: usize = 19;
-
+// The bytes of a record before its own ones: a letter, six numbers and a word; those of a number, lowest first.
 const HEAD_BYTES: usize = 27;
 
-const BYTE_VALUES: usize = 256;
+const NUMBER_BYTES: usize = 3;
 
-// The values of a number, and those of half a word, which is a number and one byte more.
-const NUMBER_VALUES: usize = 16777216;
+const NUMBERS: usize = 6;
 
-const HALF_BYTES: usize = 4;
-
-const HALF_VALUES: usize = 4294967296;
-
-// The code after which back and line may be changed (SPECIFICATION 13.5).
-const RUN_TOO_SHORT: usize = 21;
+const WORD_PLACE: usize = 1 + NUMBERS * NUMBER_BYTES;
 
 // What lent bytes and entries begin as: an operation that leaves them alone does not change them.
 const LENT_BYTE: u8 = 165;
@@ -59,67 +45,73 @@ const ENTRY_ROOM: usize = 131072;
 
 const RUN_ROOM: usize = 512;
 
-// The room of the file; the contracts below say 524,288 of a place in it.
+// The room of the file, and that of a text.
 const FILE_ROOM: usize = 524288;
+
+const TEXT_ROOM: usize = 65536;
 
 // So many items of a slice are shown whole; of more, the length and a sum.
 const WHOLE: usize = 64;
 
-const FACTOR: usize = 257;
+const FACTOR: u64 = 257;
 
-const MODULUS: usize = 1000000007;
+const MODULUS: u64 = 1000000007;
 
-// The lengths that a call gives: that of a tick, and those of the slices.
+// The head of a record.
+#[derive(Clone, Copy)]
+struct Head {
+    letter: u8,
+    numbers: [usize; NUMBERS],
+    word: usize,
+}
+
+// The texts of the calls that follow, each with spaces after it, and the length at which it is given.
+#[derive(Drop)]
+struct Texts {
+    left: [u8; TEXT_ROOM],
+    left_length: usize,
+    right: [u8; TEXT_ROOM],
+    right_length: usize,
+}
+
+// What a call is given: a tick length, two texts, and a table or nothing.
+#[derive(Clone, Copy)]
+struct Call<'a> {
+    period: usize,
+    left: &'a [u8],
+    right: &'a [u8],
+    given: &'a [u8],
+}
+
+// The lengths of the slices of a call.
 #[derive(Clone, Copy)]
 struct Lengths {
-    period: usize,
     keep: usize,
     table: usize,
     back: usize,
     line: usize,
     run: usize,
-    given: usize,
 }
 
-fn put_number(rt: &impl Print, n: usize) -> io::Result<()> {
-    print!(rt; " {n}")
-}
-
-fn put_refused(rt: &impl Print, f: Refusal) -> io::Result<()> {
+fn put_refused(rt: &impl Print, f: &Refusal) -> io::Result<()> {
     rt.print(" refused")?;
-    put_number(rt, f.code)?;
-    put_number(rt, f.file)?;
-    put_number(rt, f.p)?;
-    put_number(rt, f.q)
+    put_refusal(rt, f)
 }
 
 fn put_done(rt: &impl Print, n: usize) -> io::Result<()> {
-    rt.print(" done")?;
-    put_number(rt, n)
+    print!(rt; " done {n}")
 }
 
-fn wide(b: u8) -> usize
-    ensures { result < 256 }
-{
-    b as usize
-}
-
-fn wide_entry(e: u32) -> usize
-    ensures { result < 4294967296 }
-{
-    e as usize
+// A number, and a flag as 0 or 1.
+fn put_flagged(rt: &impl Print, n: usize, flag: bool) -> io::Result<()> {
+    let digit = u8::from(flag);
+    print!(rt; " done {n} {digit}")
 }
 
 // A sum of the items so far, with one more; the place of an item counts.
-fn added(sum: usize, item: usize) -> usize
-    requires { (sum < 1000000007) × (item < 4294967296) }
-    ensures { result < 1000000007 }
-{
-    (sum * FACTOR + item + 1) % MODULUS
-}
-
-fn put_sum(rt: &impl Print, n: usize, sum: usize) -> io::Result<()> {
-    print!(rt; "{n}:{sum}")
+fn added(sum: u64, item: u32) -> u64 {
+    let product = sum.wrapping_mul(FACTOR);
+    product.wrapping_add(u64::from(item)).wrapping_add(1) % MODULUS
 }
 
 fn put_hex(rt: &impl Print, s: &[u8]) -> io::Result<()> {
@@ -129,60 +121,40 @@ fn put_hex(rt: &impl Print, s: &[u8]) -> io::Result<()> {
     Ok(())
 }
 
-fn sum_of_bytes(s: &[u8]) -> usize {
-    let mut sum: usize = 0;
-    let mut i: usize = 0;
-    while i < s.len() {
-        sum = added(sum, wide(s[i]));
-        i += 1;
-    }
-    sum
-}
-
 // The bytes of a slice in hexadecimal, `-` if there are none.
 fn put_bytes(rt: &impl Print, s: &[u8]) -> io::Result<()> {
-    if s.len() == 0 {
+    let n = s.len();
+    if n == 0 {
         return rt.print("-");
     }
-    if s.len() <= WHOLE {
+    if n <= WHOLE {
         return put_hex(rt, s);
     }
-    put_sum(rt, s.len(), sum_of_bytes(s))
-}
-
-fn put_entry(rt: &impl Print, i: usize, entry: u32) -> io::Result<()> {
-    if 0 < i {
-        rt.print(",")?;
-    }
-    rt.print(entry)
+    let sum = s.iter().fold(0, |sum, byte| added(sum, u32::from(*byte)));
+    print!(rt; "{n}:{sum}")
 }
 
 fn put_list(rt: &impl Print, s: &[u32]) -> io::Result<()> {
-    for i in 0..s.len() {
-        put_entry(rt, i, s[i])?;
+    for (i, entry) in s.iter().enumerate() {
+        if 0 < i {
+            rt.print(",")?;
+        }
+        rt.print(entry)?;
     }
     Ok(())
 }
 
-fn sum_of_entries(s: &[u32]) -> usize {
-    let mut sum: usize = 0;
-    let mut i: usize = 0;
-    while i < s.len() {
-        sum = added(sum, wide_entry(s[i]));
-        i += 1;
-    }
-    sum
-}
-
 // The entries of a slice in decimal, joined by commas, `-` if there are none.
 fn put_entries(rt: &impl Print, s: &[u32]) -> io::Result<()> {
-    if s.len() == 0 {
+    let n = s.len();
+    if n == 0 {
         return rt.print("-");
     }
-    if s.len() <= WHOLE {
+    if n <= WHOLE {
         return put_list(rt, s);
     }
-    put_sum(rt, s.len(), sum_of_entries(s))
+    let sum = s.iter().fold(0, |sum, entry| added(sum, *entry));
+    print!(rt; "{n}:{sum}")
 }
 
 fn put_keep(rt: &impl Print, keep: &[u8]) -> io::Result<()> {
@@ -190,78 +162,54 @@ fn put_keep(rt: &impl Print, keep: &[u8]) -> io::Result<()> {
     put_bytes(rt, keep)
 }
 
-// Whether the entries of a slice are all as they were lent.
-fn is_kept(s: &[u32]) -> bool {
-    let mut i: usize = 0;
-    while i < s.len() {
-        if s[i] != LENT_ENTRY {
-            return false;
-        }
-        i += 1;
-    }
-    true
-}
-
 // What became of back or line after a refusal that must leave it alone.
 fn put_scratch(rt: &impl Print, s: &[u32]) -> io::Result<()> {
-    rt.print(if is_kept(s) { " kept" } else { " changed" })
+    let is_kept = s.iter().all(|entry| *entry == LENT_ENTRY);
+    rt.print(if is_kept { " kept" } else { " changed" })
 }
 
-fn put_flag(rt: &impl Print, b: bool) -> io::Result<()> {
-    put_number(rt, usize::from(b))
-}
-
-fn read_call(rt: &impl Print, period: usize, text: &[u8]) -> io::Result<()> {
+fn read_call(rt: &impl Print, call: &Call) -> io::Result<()> {
     rt.print("R")?;
-    let r = operations::read(period, text);
-    match r.answer {
-        Verdict::Refused(f) => put_refused(rt, f),
-        Verdict::Accepted => put_done(rt, r.states),
+    match operations::read(call.period, call.left) {
+        Ok(r) => put_done(rt, r.states),
+        Err(f) => put_refused(rt, &f),
     }
 }
 
-fn put_safe(rt: &impl Print, answer: SafeAnswer) -> io::Result<()> {
-    match answer {
-        SafeAnswer::Refused(f) => put_refused(rt, f),
-        SafeAnswer::Found(count, start) => {
-            put_done(rt, count)?;
-            put_flag(rt, start)
-        }
-    }
-}
-
-fn safe_call(rt: &impl Print, period: usize, text: &[u8], keep: &mut [u8]) -> io::Result<()> {
+fn safe_call(rt: &impl Print, call: &Call, keep: &mut [u8]) -> io::Result<()> {
     rt.print("S")?;
-    put_safe(rt, operations::safe_states(period, text, keep))?;
+    match operations::safe_states(call.period, call.left, keep) {
+        Ok(safe) => put_flagged(rt, safe.count, safe.start)?,
+        Err(f) => put_refused(rt, &f)?,
+    }
     put_keep(rt, keep)
 }
 
-// Prints the answer, and says whether back and line must be as they came: after every refusal but that of a short run.
-fn put_searched(rt: &impl Print, answer: SearchAnswer) -> io::Result<bool> {
+// Prints the answer, and says whether back and line must be as they came: after every refusal but that of a short run
+// (SPECIFICATION 13.5).
+fn put_searched(rt: &impl Print, answer: Result<usize, Refusal>) -> io::Result<bool> {
     match answer {
-        SearchAnswer::Refused(f) => {
-            put_refused(rt, f)?;
-            Ok(f.code != RUN_TOO_SHORT)
-        }
-        SearchAnswer::Found(n) => {
-            put_done(rt, n)?;
+        Ok(steps) => {
+            put_done(rt, steps)?;
             Ok(false)
+        }
+        Err(f) => {
+            put_refused(rt, &f)?;
+            Ok(!matches!(f, Refusal::RunTooShort(_)))
         }
     }
 }
 
 fn search_call(
     rt: &impl Print,
-    period: usize,
-    left: &[u8],
-    right: &[u8],
+    call: &Call,
     keep: &mut [u8],
     back: &mut [u32],
     line: &mut [u32],
     run: &mut [u32],
 ) -> io::Result<()> {
     rt.print("D")?;
-    let answer = operations::search(period, left, right, keep, back, line, run);
+    let answer = operations::search(call.period, call.left, call.right, keep, back, line, run);
     let kept = put_searched(rt, answer)?;
     put_keep(rt, keep)?;
     rt.print(" run ")?;
@@ -273,337 +221,187 @@ fn search_call(
     Ok(())
 }
 
-fn put_checked(rt: &impl Print, answer: CheckAnswer) -> io::Result<()> {
-    match answer {
-        CheckAnswer::Refused(f) => put_refused(rt, f),
-        CheckAnswer::Accepted(count) => put_done(rt, count),
-    }
-}
-
-fn check_call(
-    rt: &impl Print,
-    period: usize,
-    left: &[u8],
-    right: &[u8],
-    keep: &mut [u8],
-    table: &[u8],
-) -> io::Result<()> {
+fn check_call(rt: &impl Print, call: &Call, keep: &mut [u8]) -> io::Result<()> {
     rt.print("C")?;
-    put_checked(rt, operations::check(period, left, right, keep, table))?;
+    match operations::check(call.period, call.left, call.right, keep, call.given) {
+        Ok(pairs) => put_done(rt, pairs)?,
+        Err(f) => put_refused(rt, &f)?,
+    }
     put_keep(rt, keep)
 }
 
-fn put_made(rt: &impl Print, answer: WidestAnswer) -> io::Result<()> {
-    match answer {
-        WidestAnswer::Refused(f) => put_refused(rt, f),
-        WidestAnswer::Made(count, start) => {
-            put_done(rt, count)?;
-            put_flag(rt, start)
-        }
-    }
-}
-
-fn widest_call(
-    rt: &impl Print,
-    period: usize,
-    left: &[u8],
-    right: &[u8],
-    keep: &mut [u8],
-    table: &mut [u8],
-) -> io::Result<()> {
+fn widest_call(rt: &impl Print, call: &Call, keep: &mut [u8], table: &mut [u8]) -> io::Result<()> {
     rt.print("W")?;
-    put_made(rt, operations::widest(period, left, right, keep, table))?;
+    match operations::widest(call.period, call.left, call.right, keep, table) {
+        Ok(widest) => put_flagged(rt, widest.count, widest.start)?,
+        Err(f) => put_refused(rt, &f)?,
+    }
     put_keep(rt, keep)?;
     rt.print(" table ")?;
     put_bytes(rt, table)
 }
 
 // Entries to lend. They stand behind a function because antt must not unfold an array of this length.
-fn entries() -> [u32; ENTRY_ROOM]
-    ensures { length result ≡ 131072 }
-{
+fn entries() -> [u32; ENTRY_ROOM] {
     [LENT_ENTRY; ENTRY_ROOM]
 }
 
 // The slices of a call are the first entries of those lent here.
-fn search_parts(
-    rt: &impl Print,
-    left: &[u8],
-    right: &[u8],
-    l: Lengths,
-    keep: &mut [u8],
-    back: &mut [u32],
-    line: &mut [u32],
-    run: &mut [u32],
-) -> io::Result<()> {
-    if back.len() < l.back || line.len() < l.line || run.len() < l.run {
-        return Ok(());
-    }
-    search_call(
-        rt,
-        l.period,
-        left,
-        right,
-        keep,
-        &mut back[..l.back],
-        &mut line[..l.line],
-        &mut run[..l.run],
-    )
-}
-
 fn search_entries(
     rt: &impl Print,
-    left: &[u8],
-    right: &[u8],
-    l: Lengths,
+    call: &Call,
+    lengths: &Lengths,
     keep: &mut [u8],
 ) -> io::Result<()> {
-    let mut back = entries();
-    let mut line = entries();
-    let mut run = [LENT_ENTRY; RUN_ROOM];
-    search_parts(rt, left, right, l, keep, &mut back, &mut line, &mut run)
-}
-
-fn widest_part(
-    rt: &impl Print,
-    left: &[u8],
-    right: &[u8],
-    l: Lengths,
-    keep: &mut [u8],
-    table: &mut [u8],
-) -> io::Result<()> {
-    if table.len() < l.table {
+    let mut back_room = entries();
+    let mut line_room = entries();
+    let mut run_room = [LENT_ENTRY; RUN_ROOM];
+    let (Some(back), Some(line), Some(run)) = (
+        back_room.get_mut(..lengths.back),
+        line_room.get_mut(..lengths.line),
+        run_room.get_mut(..lengths.run),
+    ) else {
         return Ok(());
-    }
-    widest_call(rt, l.period, left, right, keep, &mut table[..l.table])
+    };
+    search_call(rt, call, keep, back, line, run)
 }
 
 fn widest_bytes(
     rt: &impl Print,
-    left: &[u8],
-    right: &[u8],
-    l: Lengths,
+    call: &Call,
+    lengths: &Lengths,
     keep: &mut [u8],
 ) -> io::Result<()> {
-    let mut table = [LENT_BYTE; TABLE_ROOM];
-    widest_part(rt, left, right, l, keep, &mut table)
-}
-
-fn call(
-    rt: &impl Print,
-    letter: u8,
-    left: &[u8],
-    right: &[u8],
-    given: &[u8],
-    l: Lengths,
-    keep: &mut [u8],
-) -> io::Result<()> {
-    match letter {
-        READ => read_call(rt, l.period, left),
-        SAFE => safe_call(rt, l.period, left, keep),
-        SEARCH => search_entries(rt, left, right, l, keep),
-        CHECK => check_call(rt, l.period, left, right, keep, given),
-        _ => widest_bytes(rt, left, right, l, keep),
+    let mut room = [LENT_BYTE; TABLE_ROOM];
+    match room.get_mut(..lengths.table) {
+        Some(table) => widest_call(rt, call, keep, table),
+        None => Ok(()),
     }
 }
 
-fn call_part(
-    rt: &impl Print,
-    letter: u8,
-    left: &[u8],
-    right: &[u8],
-    given: &[u8],
-    l: Lengths,
-    keep: &mut [u8],
-) -> io::Result<()> {
-    if keep.len() < l.keep {
+// The call of a letter, with a keep of the first bytes of one that is lent here.
+fn make_call(rt: &impl Print, letter: u8, call: &Call, lengths: &Lengths) -> io::Result<()> {
+    let mut room = [LENT_BYTE; KEEP_ROOM];
+    let Some(keep) = room.get_mut(..lengths.keep) else {
         return Ok(());
+    };
+    match letter {
+        READ => read_call(rt, call)?,
+        SAFE => safe_call(rt, call, keep)?,
+        SEARCH => search_entries(rt, call, lengths, keep)?,
+        CHECK => check_call(rt, call, keep)?,
+        _ => widest_bytes(rt, call, lengths, keep)?,
     }
-    call(rt, letter, left, right, given, l, &mut keep[..l.keep])?;
     rt.print("\n")
 }
 
-// The byte at a place, 0 past the end.
-fn byte_at(s: &[u8], at: usize) -> u8 {
-    if at < s.len() {
-        return s[at];
+// A number of at most eight bytes, lowest first.
+fn whole(bytes: &[u8]) -> usize {
+    bytes
+        .iter()
+        .rev()
+        .fold(0, |n: usize, byte| n << 8 | usize::from(*byte))
+}
+
+// The head of a record.
+fn head_of(bytes: &[u8; HEAD_BYTES]) -> Head {
+    let mut numbers = [0; NUMBERS];
+    let own = &bytes[1..WORD_PLACE];
+    for (number, digits) in numbers.iter_mut().zip(own.chunks(NUMBER_BYTES)) {
+        *number = whole(digits);
     }
-    0
-}
-
-// A number of three bytes, lowest first.
-fn number_at(s: &[u8], at: usize) -> usize
-    requires { at < 524288 + 27 }
-    ensures { result < 16777216 }
-{
-    let low = wide(byte_at(s, at));
-    let middle = wide(byte_at(s, at + 1));
-    let high = wide(byte_at(s, at + 2));
-    low + BYTE_VALUES * (middle + BYTE_VALUES * high)
-}
-
-// The number i, from 0, of the record at a place.
-fn number_of(s: &[u8], at: usize, i: usize) -> usize
-    requires { (at < 524288) × (i < 6) }
-    ensures { result < 16777216 }
-{
-    number_at(s, at + 1 + NUMBER_BYTES * i)
-}
-
-// Half a word, lowest byte first.
-fn half_at(s: &[u8], at: usize) -> usize
-    requires { at < 524288 + 27 }
-    ensures { result < 4294967296 }
-{
-    let low = number_at(s, at);
-    let high = wide(byte_at(s, at + NUMBER_BYTES));
-    low + NUMBER_VALUES * high
-}
-
-// The word of the record at a place, lowest byte first.
-fn word_of(s: &[u8], at: usize) -> usize
-    requires { at < 524288 }
-{
-    let low = half_at(s, at + WORD_PLACE);
-    let high = half_at(s, at + WORD_PLACE + HALF_BYTES);
-    low + HALF_VALUES * high
-}
-
-fn lengths_at(s: &[u8], at: usize) -> Lengths
-    requires { at < 524288 }
-    ensures { result.given < 16777216 }
-{
-    Lengths {
-        period: word_of(s, at),
-        keep: number_of(s, at, 0),
-        table: number_of(s, at, 1),
-        back: number_of(s, at, 2),
-        line: number_of(s, at, 3),
-        run: number_of(s, at, 4),
-        given: number_of(s, at, 5),
+    Head {
+        letter: bytes[0],
+        numbers,
+        word: whole(&bytes[WORD_PLACE..]),
     }
-}
-
-// The call at a place of the file; answers where the next record begins.
-fn run_call(rt: &impl Print, s: &[u8], at: usize, left: &[u8], right: &[u8]) -> io::Result<usize>
-    requires { at < 524288 }
-    ensures { IfOk result (λ next. at < next) }
-{
-    let letter = byte_at(s, at);
-    let l = lengths_at(s, at);
-    let a = at + HEAD_BYTES;
-    let e = a + l.given;
-    if s.len() < e {
-        return Ok(e);
-    }
-    let mut keep = [LENT_BYTE; KEEP_ROOM];
-    call_part(rt, letter, left, right, &s[a..e], l, &mut keep)?;
-    Ok(e)
-}
-
-// The byte of a text at a place, a space past its end.
-fn text_byte(t: &[u8], i: usize) -> u8 {
-    if i < t.len() {
-        return t[i];
-    }
-    b' '
 }
 
 // The text t, and spaces.
 fn lay(t: &[u8], room: &mut [u8]) {
-    let mut i = 0;
-    while i < room.len() {
-        room[i] = text_byte(t, i);
-        i += 1;
+    room.fill(b' ');
+    for (place, byte) in room.iter_mut().zip(t.iter()) {
+        *place = *byte;
     }
 }
 
-// Lays the two texts of the record at a place; answers where the next record begins.
-fn lay_texts(s: &[u8], at: usize, left: &mut [u8], right: &mut [u8]) -> usize
-    requires { at < 524288 }
-    ensures { at < result }
-{
-    let a = at + HEAD_BYTES;
-    let b = a + number_of(s, at, 0);
-    let e = b + number_of(s, at, 2);
-    if s.len() < e {
-        return e;
-    }
-    lay(&s[a..b], left);
-    lay(&s[b..e], right);
-    e
+// The first n bytes of the room of a text.
+fn text_in(room: &[u8], n: usize) -> &[u8] {
+    room.get(..n).unwrap_or(&[])
 }
 
-// The call at a place, over the texts as long as the record at `from` says.
-fn run_over(
+// The two texts of a record; answers the bytes behind them.
+fn lay_texts<'a>(head: &Head, bytes: &'a [u8], texts: &mut Texts) -> Option<&'a [u8]> {
+    let [left_bytes, left_length, right_bytes, right_length, ..] = head.numbers;
+    let (left, behind) = bytes.split_at_checked(left_bytes)?;
+    let (right, rest) = behind.split_at_checked(right_bytes)?;
+    lay(left, &mut texts.left);
+    lay(right, &mut texts.right);
+    texts.left_length = left_length;
+    texts.right_length = right_length;
+    Some(rest)
+}
+
+// The call of a record; answers the bytes behind the given table.
+fn run_call<'a>(
     rt: &impl Print,
-    s: &[u8],
-    at: usize,
-    from: usize,
-    left: &[u8],
-    right: &[u8],
-) -> io::Result<usize>
-    requires { (at < 524288) × (from < 524288) }
-    ensures { IfOk result (λ next. at < next) }
-{
-    let n = number_of(s, from, 1);
-    let m = number_of(s, from, 3);
-    if left.len() < n || right.len() < m {
-        return Ok(at + HEAD_BYTES);
-    }
-    run_call(rt, s, at, &left[..n], &right[..m])
+    head: &Head,
+    bytes: &'a [u8],
+    texts: &Texts,
+) -> io::Result<Option<&'a [u8]>> {
+    let [keep, table, back, line, run, given] = head.numbers;
+    let Some((given, rest)) = bytes.split_at_checked(given) else {
+        return Ok(None);
+    };
+    let call = Call {
+        period: head.word,
+        left: text_in(&texts.left, texts.left_length),
+        right: text_in(&texts.right, texts.right_length),
+        given,
+    };
+    let lengths = Lengths {
+        keep,
+        table,
+        back,
+        line,
+        run,
+    };
+    make_call(rt, head.letter, &call, &lengths)?;
+    Ok(Some(rest))
 }
 
-fn run_record(
-    rt: &impl Print,
-    s: &[u8],
-    at: usize,
-    from: usize,
-    left: &mut [u8],
-    right: &mut [u8],
-) -> io::Result<usize>
-    requires { (at < 524288) × (from < 524288) }
-    ensures { IfOk result (λ next. at < next) }
-{
-    if byte_at(s, at) == TEXTS {
-        return Ok(lay_texts(s, at, left, right));
+// The record at the start of bytes; answers the bytes behind it, if it is whole.
+fn run_record<'a>(rt: &impl Print, s: &'a [u8], texts: &mut Texts) -> io::Result<Option<&'a [u8]>> {
+    let Some((bytes, own)) = s.split_first_chunk::<HEAD_BYTES>() else {
+        return Ok(None);
+    };
+    let head = head_of(bytes);
+    if head.letter == TEXTS {
+        return Ok(lay_texts(&head, own, texts));
     }
-    run_over(rt, s, at, from, left, right)
+    run_call(rt, &head, own, texts)
 }
 
-// Where the record of the texts stands, after the record at `at`.
-fn texts_from(s: &[u8], at: usize, from: usize) -> usize
-    requires { (at < 524288) × (from < 524288) }
-    ensures { result < 524288 }
-{
-    if byte_at(s, at) == TEXTS {
-        return at;
-    }
-    from
-}
-
-fn run_all(rt: &impl Print, s: &[u8], left: &mut [u8], right: &mut [u8]) -> io::Result<()>
-    requires { length s.now ≤ 524288 }
-{
-    let mut from: usize = 0;
-    let mut at: usize = 0;
-    while at < s.len() {
-        from = texts_from(s, at, from);
-        at = run_record(rt, s, at, from, left, right)?;
+// All records; there are no more of them than bytes.
+fn run_all(rt: &impl Print, s: &[u8], texts: &mut Texts) -> io::Result<()> {
+    let mut rest = s;
+    for _ in 0..s.len() {
+        let Some(behind) = run_record(rt, rest, texts)? else {
+            return Ok(());
+        };
+        rest = behind;
     }
     Ok(())
 }
 
-fn file_room() -> [u8; FILE_ROOM]
-    ensures { length result ≡ 524288 }
-{
-    [0u8; FILE_ROOM]
-}
-
 fn main(rt: HostRuntime) -> io::Result<()> {
-    let mut buf = file_room();
+    let mut buf = programs::room::<FILE_ROOM>();
     let n = programs::read_file(&rt, b"cases", &mut buf);
-    let mut left = programs::text_room();
-    let mut right = programs::text_room();
-    run_all(&rt, &buf[..n], &mut left, &mut right)
+    let mut texts = Texts {
+        left: programs::text_room(),
+        left_length: 0,
+        right: programs::text_room(),
+        right_length: 0,
+    };
+    run_all(&rt, &buf[..n], &mut texts)
 }

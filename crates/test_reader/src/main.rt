@@ -7,35 +7,19 @@
 use limits::LARGEST_TEXT;
 use std::io;
 
+// The room of the input.
+const INPUT_ROOM: usize = 262144;
+
 // The byte after a text, and that after its tick length.
 const TEXT_END: u8 = b'%';
 
 const LINE_END: u8 = b'\n';
 
-// The bytes between a text and its tick length: `%`, how it is read, and a space.
-const MIDDLE_BYTES: usize = 3;
-
-// So many texts are told apart by their number.
-const LAST_NUMBER: u64 = 1000;
-
-// The byte at i when t begins at `from`, a space before it and after its end.
-fn byte_at(t: &[u8], from: usize, i: usize) -> u8 {
-    if i < from {
-        return b' ';
-    }
-    let k = i - from;
-    if k < t.len() {
-        return t[k];
-    }
-    b' '
-}
-
-// The text t from a place on, and spaces.
+// The text t from a place on, with spaces before it and after its end.
 fn lay(t: &[u8], from: usize, room: &mut [u8]) {
-    let mut i = 0;
-    while i < room.len() {
-        room[i] = byte_at(t, from, i);
-        i += 1;
+    room.fill(b' ');
+    for (place, byte) in room.iter_mut().skip(from).zip(t.iter()) {
+        *place = *byte;
     }
 }
 
@@ -43,27 +27,22 @@ fn show(rt: &impl Print, period: usize, t: &[u8]) -> io::Result<()> {
     reader_print::print(rt, reader::parse(period, t))
 }
 
-// The first n bytes.
-fn show_first(rt: &impl Print, period: usize, s: &[u8], n: usize) -> io::Result<()> {
-    if n <= s.len() {
-        show(rt, period, &s[..n])?;
-    }
-    Ok(())
-}
-
 // The text t from a place on, with spaces up to n bytes.
 fn show_long(rt: &impl Print, period: usize, t: &[u8], from: usize, n: usize) -> io::Result<()> {
     let mut room = programs::text_room();
     lay(t, from, &mut room);
-    show_first(rt, period, &room, n)
+    match room.get(..n) {
+        Some(long) => show(rt, period, long),
+        None => Ok(()),
+    }
 }
 
 // The text t at the end of the largest length.
 fn show_last(rt: &impl Print, period: usize, t: &[u8]) -> io::Result<()> {
-    if t.len() <= LARGEST_TEXT {
-        show_long(rt, period, t, LARGEST_TEXT - t.len(), LARGEST_TEXT)?;
+    match LARGEST_TEXT.checked_sub(t.len()) {
+        Some(from) => show_long(rt, period, t, from, LARGEST_TEXT),
+        None => Ok(()),
     }
-    Ok(())
 }
 
 fn show_as(rt: &impl Print, period: usize, t: &[u8], how: u8) -> io::Result<()> {
@@ -75,29 +54,38 @@ fn show_as(rt: &impl Print, period: usize, t: &[u8], how: u8) -> io::Result<()> 
     }
 }
 
+// A text that ends, and what stands from there to the next one's end: how it is read, a space, its tick length, a line
+// feed and the next text, which is answered.
+fn show_next<'a>(rt: &impl Print, k: usize, text: &[u8], part: &'a [u8]) -> io::Result<&'a [u8]> {
+    let Some(([how, _], rest)) = part.split_first_chunk::<2>() else {
+        return Ok(&[]);
+    };
+    let end = rest
+        .iter()
+        .position(|byte| *byte == LINE_END)
+        .unwrap_or(rest.len());
+    let Some((number, behind)) = rest.split_at_checked(end) else {
+        return Ok(&[]);
+    };
+    rt.print(k)?;
+    show_as(rt, test_input::decimal(number), text, *how)?;
+    Ok(behind.get(1..).unwrap_or(&[]))
+}
+
 fn texts(rt: &impl Print, s: &[u8]) -> io::Result<()> {
-    let mut at = 0;
-    let mut k: u64 = 1;
-    while at < s.len() {
-        let e = test_input::end_of(s, at, TEXT_END);
-        if s.len() - e < MIDDLE_BYTES {
-            return Ok(());
-        }
-        let from = e + MIDDLE_BYTES;
-        let end = test_input::end_of(s, from, LINE_END);
-        let period = test_input::decimal(&s[from..end]);
-        rt.print(k)?;
-        show_as(rt, period, &s[at..e], s[e + 1])?;
-        at = test_input::after(s, at, end);
-        if k < LAST_NUMBER {
-            k += 1;
-        }
+    let mut text: &[u8] = &[];
+    for (k, part) in s.split(|byte| *byte == TEXT_END).enumerate() {
+        text = if k == 0 {
+            part
+        } else {
+            show_next(rt, k, text, part)?
+        };
     }
     Ok(())
 }
 
 fn main(rt: HostRuntime) -> io::Result<()> {
-    let mut buf = test_input::room();
+    let mut buf = programs::room::<INPUT_ROOM>();
     let n = programs::read_input(&rt, &mut buf);
     texts(&rt, &buf[..n])
 }

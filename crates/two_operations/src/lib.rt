@@ -8,9 +8,8 @@ ghost use Rattle.search.specs.Outcome.{Outcome, Scratch};
 ghost use Rattle.tables.specs.Outcome.{Checked, Widened};
 ghost use Rattle.two_operations.specs.Outcome.{search_outcome, check_outcome, widest_outcome};
 
-use refusals::Verdict;
-use search::SearchAnswer;
-use tables::{CheckAnswer, WidestAnswer};
+use refusals::Refusal;
+use tables_widest::WidestTable;
 use two_texts::MeasuredTexts;
 
 // A shortest departure; keep gets the left's safe states, back and line are scratch, run gets the steps
@@ -28,7 +27,7 @@ pub fn search(
     back: &mut [u32],
     line: &mut [u32],
     run: &mut [u32],
-) -> SearchAnswer
+) -> Result<usize, Refusal>
     requires { MeasuresTwo period left.now right.now texts
         × Rooms texts (length lm.old) (length rm.old) (length lh.old) (length rh.old) }
     ensures { (◌≡◌ {A = Outcome} (record { answer = result; keep = keep.new; run = run.new })
@@ -36,16 +35,8 @@ pub fn search(
         (length line.old) run.old))
         × Scratch result back.old back.new line.old line.new }
 {
-    let t = two_texts::load_two(period, left, right, texts, lm, rm, lh, rh);
-    let answer = t.answer;
-    match answer {
-        Verdict::Refused(f) => SearchAnswer::Refused(f),
-        Verdict::Accepted => {
-            let sides = t.sides;
-            let inputs = t.inputs;
-            search::search(sides, inputs, lm, rm, lh, rh, keep, back, line, run)
-        }
-    }
+    let t = two_texts::load_two(period, left, right, texts, lm, rm, lh, rh)?;
+    search::search(t.sides, t.inputs, lm, rm, lh, rh, keep, back, line, run)
 }
 
 // The check of a given table; keep gets the left's safe states (SPECIFICATION 12.5).
@@ -60,22 +51,14 @@ pub fn check(
     rh: &mut [u8],
     keep: &mut [u8],
     table: &[u8],
-) -> CheckAnswer
+) -> Result<usize, Refusal>
     requires { MeasuresTwo period left.now right.now texts
         × Rooms texts (length lm.old) (length rm.old) (length lh.old) (length rh.old) }
     ensures { ◌≡◌ {A = Checked} (record { answer = result; keep = keep.new })
         (check_outcome period left.now right.now keep.old table.now) }
 {
-    let t = two_texts::load_two(period, left, right, texts, lm, rm, lh, rh);
-    let answer = t.answer;
-    match answer {
-        Verdict::Refused(f) => CheckAnswer::Refused(f),
-        Verdict::Accepted => {
-            let sides = t.sides;
-            let inputs = t.inputs;
-            tables::check(sides, inputs, lm, rm, lh, rh, keep, table)
-        }
-    }
+    let t = two_texts::load_two(period, left, right, texts, lm, rm, lh, rh)?;
+    tables::check(t.sides, t.inputs, lm, rm, lh, rh, keep, table)
 }
 
 // The widest table; keep gets the left's safe states (SPECIFICATION 12.6).
@@ -90,20 +73,12 @@ pub fn widest(
     rh: &mut [u8],
     keep: &mut [u8],
     table: &mut [u8],
-) -> WidestAnswer
+) -> Result<WidestTable, Refusal>
     requires { MeasuresTwo period left.now right.now texts
         × Rooms texts (length lm.old) (length rm.old) (length lh.old) (length rh.old) }
     ensures { ◌≡◌ {A = Widened} (record { answer = result; keep = keep.new; table = table.new })
         (widest_outcome period left.now right.now keep.old table.old) }
 {
-    let t = two_texts::load_two(period, left, right, texts, lm, rm, lh, rh);
-    let answer = t.answer;
-    match answer {
-        Verdict::Refused(f) => WidestAnswer::Refused(f),
-        Verdict::Accepted => {
-            let sides = t.sides;
-            let inputs = t.inputs;
-            tables::widest(sides, inputs, lm, rm, lh, rh, keep, table)
-        }
-    }
+    let t = two_texts::load_two(period, left, right, texts, lm, rm, lh, rh)?;
+    tables::widest(t.sides, t.inputs, lm, rm, lh, rh, keep, table)
 }

@@ -1,5 +1,5 @@
 -- What the parts of loading answer. Definitions only; the laws of the code's paths are in proofs/Paths.antt.
-use Rattle.std.specs.Prelude.{◌≡◌, false, List, ℕ, ◌+◌, ◌*◌, ◌≤◌, length, replicate}
+use Rattle.std.specs.Prelude.{◌≡◌, List, ℕ, ◌+◌, ◌*◌, ◌≤◌, length, Result, Ok}
 use Rattle.refusals.specs.declared.Refusal.{Refusal}
 use Rattle.reader_record.specs.declared.Text.{Text}
 use Rattle.reader_record.specs.Formed.{WellFormed}
@@ -7,26 +7,18 @@ use Rattle.bitmaps.specs.Bits.{tab_from, written}
 use Rattle.clocks.specs.declared.Ranges.{Ranges}
 use Rattle.clocks.specs.States.{ranges, state_count, start_state, input}
 use Rattle.clocks.specs.Encoding.{Filled}
-use Rattle.refusals.specs.Refusals.{right_file}
+use Rattle.refusals.specs.declared.File.TheVariants.{Right}
+use Rattle.refusals.specs.Answers.{answer_of}
 use Rattle.clocks_read.specs.declared.Measured.{Measured}
 use Rattle.clocks_read.specs.Measured.{Measures}
 use Rattle.clocks_read.specs.Reading.{read_outcome}
 use Rattle.pairing.specs.Channels.{unmatched}
 use Rattle.pairing.specs.Table.{renumbered}
-use Rattle.refusals.specs.declared.Verdict.TheVariants.{Accepted, Refused}
 use Rattle.move_tables.specs.declared.Sides.{Sides}
 use Rattle.two_texts.specs.declared.TwoTexts.{TwoTexts}
 use Rattle.two_texts.specs.Two.{text_of, refused_in, refused_pairing, or_else, step_of}
 use Rattle.two_texts.specs.Loaded.{refusal_in}
 use Rattle.limits.specs.Limits.{step_limit, state_limit}
-
--- beside a refusal all numbers are 0 and no step is an input
-unfoldable pub refused : Refusal → TwoTexts
-refused f = record {
-  answer = Refused f;
-  sides = record { left_states = 0; right_states = 0; steps = 0; left_start = 0; right_start = 0 };
-  inputs = replicate step_limit false;
-}
 
 -- the sizes and starts of two accepted texts
 unfoldable pub sides_of : Text → Text → Sides
@@ -40,7 +32,7 @@ sides_of l r = record {
 
 -- the numbers of two accepted texts
 unfoldable pub accepted : Text → Text → TwoTexts
-accepted l r = record { answer = Accepted; sides = sides_of l r; inputs = tab_from (input l) 0 step_limit }
+accepted l r = record { sides = sides_of l r; inputs = tab_from (input l) 0 step_limit }
 
 -- a text with the ranges of its clocks, its state count within the limit
 pub record Sized (t : Text) (r : Ranges) : Type 0 where
@@ -52,8 +44,8 @@ pub record Sized (t : Text) (r : Ranges) : Type 0 where
 module _ (period : ℕ) where
   -- m is the text s, parsed and measured, which is accepted
   pub record AcceptedMeasure (s : List ℕ) (m : Measured) : Type 0 where
-    pub measures : Measures period s m
-    pub accepted : (read_outcome period s).answer ≡ Accepted
+    pub measures : Measures period s (Ok m)
+    pub accepted : answer_of (read_outcome period s) ≡ Ok tt
 
   -- how many entries the right's table has by the left's steps
   abbrev pub size_by_left : List ℕ → List ℕ → ℕ
@@ -68,11 +60,11 @@ module _ (period : ℕ) where
       (size_by_left left right) d
 
   -- pairing the channels: code 12, else the numbers, and `before` with the right's table `own` by the left's steps
-  pub record Paired (left right own before after : List ℕ) (t : TwoTexts) : Type 0 where
+  pub record Paired (left right own before after : List ℕ) (t : Result TwoTexts Refusal) : Type 0 where
     pub judged : refused_pairing (unmatched left (text_of period left) right (text_of period right))
-        ≡ refusal_in t.answer
-    pub numbers : t.answer ≡ Accepted → t ≡ accepted (text_of period left) (text_of period right)
-    pub moves : t.answer ≡ Accepted → after ≡ by_left left right own before
+        ≡ refusal_in (answer_of t)
+    pub numbers : answer_of t ≡ Ok tt → t ≡ Ok (accepted (text_of period left) (text_of period right))
+    pub moves : answer_of t ≡ Ok tt → after ≡ by_left left right own before
 
   -- what is known of the right's slices once both texts are accepted
   pub record RightFilled (left right moves holds : List ℕ) : Type 0 where
@@ -83,10 +75,10 @@ module _ (period : ℕ) where
     pub moves_are : moves ≡ by_left left right own before
 
   -- loading the right after the left was accepted: codes 2 to 11 of the right, then 12
-  pub record RightLoaded (left right moves holds : List ℕ) (t : TwoTexts) : Type 0 where
+  pub record RightLoaded (left right moves holds : List ℕ) (t : Result TwoTexts Refusal) : Type 0 where
     pub judged :
-        or_else (refused_in right_file (read_outcome period right).answer)
+        or_else (refused_in Right (answer_of (read_outcome period right)))
         (refused_pairing (unmatched left (text_of period left) right (text_of period right)))
-        ≡ refusal_in t.answer
-    pub numbers : t.answer ≡ Accepted → t ≡ accepted (text_of period left) (text_of period right)
-    pub filled : t.answer ≡ Accepted → RightFilled left right moves holds
+        ≡ refusal_in (answer_of t)
+    pub numbers : answer_of t ≡ Ok tt → t ≡ Ok (accepted (text_of period left) (text_of period right))
+    pub filled : answer_of t ≡ Ok tt → RightFilled left right moves holds

@@ -1,17 +1,16 @@
 -- What the operations above work on: slices that hold two accepted texts with equal channels.
-use Rattle.std.specs.Prelude.{◌≡◌, List, ℕ}
+use Rattle.std.specs.Prelude.{◌≡◌, List, ℕ, Result, Ok, Err, IfOk, ⊤}
 use Rattle.std.proofs.Math.Option.{Option, none, some}
 use Rattle.refusals.specs.declared.Refusal.{Refusal}
-use Rattle.refusals.specs.declared.Verdict.{Verdict}
-use Rattle.refusals.specs.declared.Verdict.TheVariants.{Accepted, Refused}
+use Rattle.refusals.specs.Answers.{answer_of}
 use Rattle.move_tables.specs.Held.{Held}
 use Rattle.two_texts.specs.declared.TwoTexts.{TwoTexts}
 use Rattle.two_texts.specs.Two.{two_judged, Compared, left_system, right_system}
 
 -- the refusal of an answer, if it is one
-unfoldable pub refusal_in : Verdict → Option Refusal
-refusal_in Accepted = none
-refusal_in (Refused r) = some r
+unfoldable pub refusal_in : Result ⊤ Refusal → Option Refusal
+refusal_in (Ok u) = none
+refusal_in (Err r) = some r
 
 -- at one tick length, `period` (SPECIFICATION 4.7)
 module _ (period : ℕ) where
@@ -23,7 +22,7 @@ module _ (period : ℕ) where
       left_moves right_moves left_holds right_holds
 
   -- what loading two texts promises
-  pub record Loads (left right left_moves right_moves left_holds right_holds : List ℕ) (t : TwoTexts) : Type 0 where
-    pub judged : two_judged period left right ≡ refusal_in t.answer
-    pub loaded : (c : Compared period left right) → t.answer ≡ Accepted
-        → Loaded c left_moves right_moves left_holds right_holds t
+  pub record Loads (left right left_moves right_moves left_holds right_holds : List ℕ) (t : Result TwoTexts Refusal) : Type 0 where
+    pub judged : two_judged period left right ≡ refusal_in (answer_of t)
+    pub loaded : (c : Compared period left right)
+        → IfOk t (Loaded c left_moves right_moves left_holds right_holds)

@@ -1,11 +1,18 @@
 -- Two texts that are parsed and measured, and slices with room for both.
-use Rattle.std.specs.Prelude.{◌≡◌, Bool, true, false, List, ℕ, ◌≤◌, leb}
+use Rattle.std.specs.Prelude.{◌≡◌, Bool, true, false, List, ℕ, ◌≤◌, leb, Result, Ok, Err}
 use Rattle.std.proofs.Common.{arith, leb-true}
 use Rattle.clocks_table.specs.Judge.{room_within, room_always}
 use Rattle.clocks_table.specs.Room.{Room}
+use Rattle.refusals.specs.declared.Refusal.{Refusal}
+use Rattle.clocks_read.specs.declared.Measured.{Measured}
 use Rattle.clocks_read.specs.Measured.{Measures}
 use Rattle.two_texts.specs.declared.MeasuredTexts.{MeasuredTexts}
 use Rattle.limits.specs.Limits.{move_limit, keep_limit, few_states, few_moves, few_bytes}
+
+-- the number of states of a text that is measured; a refused one has none
+abbrev pub states_of : Result Measured Refusal → ℕ
+states_of (Ok m) = m.states
+states_of (Err f) = 0
 
 -- both counts of states are few, if `few` says so
 pub record Few (few : Bool) (n w : ℕ) : Type 0 where
@@ -23,12 +30,12 @@ few_within n w h = record { left = λ _. h; right = λ e. leb-true w few_states 
 
 -- slices of these lengths have room for both
 pub record Rooms (b : MeasuredTexts) (left_moves right_moves left_holds right_holds : ℕ) : Type 0 where
-  pub left : Room b.left.states left_moves left_holds
-  pub right : Room b.right.states right_moves right_holds
+  pub left : Room (states_of b.left) left_moves left_holds
+  pub right : Room (states_of b.right) right_moves right_holds
 
 -- small slices have it where both have few states, the large ones always
 module _ (b : MeasuredTexts) (lm rm lh rh : ℕ) where
-  pub rooms_few : Few b.few b.left.states b.right.states → b.few ≡ true → lm ≡ few_moves → rm ≡ few_moves
+  pub rooms_few : Few b.few (states_of b.left) (states_of b.right) → b.few ≡ true → lm ≡ few_moves → rm ≡ few_moves
       → lh ≡ few_bytes → rh ≡ few_bytes → Rooms b lm rm lh rh
   rooms_few f e p q r s = record {
     left = room_within few_states _ lm lh (f.left e) (omega arith) (omega arith);
@@ -47,4 +54,4 @@ module _ (period : ℕ) where
   pub record MeasuresTwo (left right : List ℕ) (b : MeasuredTexts) : Type 0 where
     pub left_text : Measures period left b.left
     pub right_text : Measures period right b.right
-    pub few : Few b.few b.left.states b.right.states
+    pub few : Few b.few (states_of b.left) (states_of b.right)

@@ -1,40 +1,40 @@
 -- The two texts of an operation, the left (the draft) and the right (the contract), as their bytes: codes 24 and 1 to
 -- 12 in their order, and what an operation works on once they find nothing (SPECIFICATION 9.1, 9.2, 13.2, 13.3).
-use Rattle.std.specs.Prelude.{◌≡◌, refl, cond, List, ℕ, ltb, length}
+use Rattle.std.specs.Prelude.{◌≡◌, refl, cond, List, ℕ, ltb, length, Result, Ok, Err, ⊤}
 use Rattle.std.proofs.Math.Option.{Option, none, some}
 use Rattle.refusals.specs.declared.Refusal.{Refusal}
-use Rattle.refusals.specs.Refusals.{in_file, text_too_long, tick_out_of_range, left_file, right_file}
+use Rattle.refusals.specs.declared.Refusal.TheVariants.{TextTooLong, TickOutOfRange}
+use Rattle.refusals.specs.declared.File.{File}
+use Rattle.refusals.specs.declared.File.TheVariants.{Left, Right}
+use Rattle.refusals.specs.Refusals.{in_file}
+use Rattle.refusals.specs.Answers.{answer_of}
 use Rattle.reader_record.specs.declared.Text.{Text}
 use Rattle.systems.specs.Definitions.{Input}
 use Rattle.systems.specs.Finite.{FiniteSystem}
 use Rattle.systems.specs.Renumbered.{renumbered}
 use Rattle.clocks.specs.Accepted.{Accepted}
 use Rattle.clocks.proofs.Contract.{signature, system}
-use Rattle.refusals.specs.declared.Verdict.{Verdict}
-use Rattle.refusals.specs.declared.Verdict.TheVariants as verdict
-use Rattle.clocks_read.specs.Reading.{read_outcome}
-use Rattle.pairing.specs.declared.Matched.{Matched}
-use Rattle.pairing.specs.declared.Matched.TheVariants.{Equal, Unmatched}
+use Rattle.clocks_read.specs.Reading.{read_outcome, text_in}
 use Rattle.pairing.specs.Channels.{unmatched, right_step}
 use Rattle.limits.specs.Limits.{largest_text, tick_allowed}
 
 -- code 24 (SPECIFICATION 4.7)
 unfoldable pub tick_judged : ℕ → Option Refusal
-tick_judged period = cond (tick_allowed period) none (some (tick_out_of_range period))
+tick_judged period = cond (tick_allowed period) none (some (TickOutOfRange period))
 
 -- code 1, with the mark of the file (SPECIFICATION 4.3, 13.2)
-unfoldable pub too_long_in : ℕ → List ℕ → Option Refusal
-too_long_in file s = cond (ltb largest_text (length s)) (some (in_file file text_too_long)) none
+unfoldable pub too_long_in : File → List ℕ → Option Refusal
+too_long_in file s = cond (ltb largest_text (length s)) (some (TextTooLong file)) none
 
 -- codes 1 to 11, with the mark of the file (SPECIFICATION 13.2)
-unfoldable pub refused_in : ℕ → Verdict → Option Refusal
-refused_in file verdict.Accepted = none
-refused_in file (verdict.Refused r) = some (in_file file r)
+unfoldable pub refused_in : File → Result ⊤ Refusal → Option Refusal
+refused_in file (Ok u) = none
+refused_in file (Err r) = some (in_file file r)
 
 -- code 12, which says itself which file it means (SPECIFICATION 9.1)
-unfoldable pub refused_pairing : Matched → Option Refusal
-refused_pairing Equal = none
-refused_pairing (Unmatched r) = some r
+unfoldable pub refused_pairing : Result ⊤ Refusal → Option Refusal
+refused_pairing (Ok u) = none
+refused_pairing (Err r) = some r
 
 -- the refusal that is judged first
 unfoldable pub or_else : Option Refusal → Option Refusal → Option Refusal
@@ -50,16 +50,16 @@ judged_by (some r) refused accepted = refused r
 module _ (period : ℕ) where
   -- the record of a text that is read
   abbrev pub text_of : List ℕ → Text
-  text_of s = (read_outcome period s).text
+  text_of s = text_in (read_outcome period s)
 
   -- codes 24 and 1 to 11: the tick length, both lengths, the left's first, then what reading the left finds, then the
   -- right (SPECIFICATION 13.3)
   unfoldable pub texts_judged : List ℕ → List ℕ → Option Refusal
   texts_judged left right =
-      or_else (tick_judged period) (or_else (too_long_in left_file left)
-      (or_else (too_long_in right_file right)
-      (or_else (refused_in left_file (read_outcome period left).answer)
-      (refused_in right_file (read_outcome period right).answer))))
+      or_else (tick_judged period) (or_else (too_long_in Left left)
+      (or_else (too_long_in Right right)
+      (or_else (refused_in Left (answer_of (read_outcome period left)))
+      (refused_in Right (answer_of (read_outcome period right))))))
 
   -- code 12, of two accepted texts (SPECIFICATION 9.1)
   unfoldable pub channels_judged : List ℕ → List ℕ → Option Refusal

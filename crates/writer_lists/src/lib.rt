@@ -33,11 +33,9 @@ pub fn put_channels(
     let word = put_token(out, at, b"broadcast");
     let start = put_token(out, word, b"chan");
     let mut place = put_channel(out, start, s, channels, count, 0);
-    let mut i: usize = 1;
-    while i < count {
+    for i in 1..count {
         let comma = put_token(out, place, b",");
         place = put_channel(out, comma, s, channels, count, i);
-        i += 1;
     }
     put_token(out, place, b";")
 }
@@ -51,11 +49,9 @@ pub fn put_clocks(out: &mut [u8], at: usize, u: usize, count: usize) -> usize
     }
     let start = put_token(out, at, b"clock");
     let mut place = put_named(out, start, CLOCK, u, 0);
-    let mut i: usize = 1;
-    while i < count {
+    for i in 1..count {
         let comma = put_token(out, place, b",");
         place = put_named(out, comma, CLOCK, u, i);
-        i += 1;
     }
     put_token(out, place, b";")
 }
@@ -81,11 +77,9 @@ pub fn put_locations(out: &mut [u8], at: usize, u: usize, t: Text) -> usize
     }
     let start = put_token(out, at, b"state");
     let mut place = put_location_at(out, start, u, t, 0);
-    let mut i: usize = 1;
-    while i < count {
+    for i in 1..count {
         let comma = put_token(out, place, b",");
         place = put_location_at(out, comma, u, t, i);
-        i += 1;
     }
     put_token(out, place, b";")
 }
@@ -106,12 +100,10 @@ pub fn put_edges(out: &mut [u8], at: usize, s: &[u8], u: usize, t: Text) -> usiz
     let start = put_token(out, at, b"trans");
     let first = t.edges[0];
     let mut place = put_edge(out, start, s, channels, declared, u, clocks, first);
-    let mut i: usize = 1;
-    while i < count {
+    for i in 1..count {
         let comma = put_token(out, place, b",");
         let e = t.edges[i];
         place = put_edge(out, comma, s, channels, declared, u, clocks, e);
-        i += 1;
     }
     put_token(out, place, b";")
 }

@@ -56,12 +56,9 @@ fn put_constraint(
     let start = put_token(out, at, opening);
     let first = g.comparisons[0];
     let mut place = put_comparison(out, start, u, first);
-    let mut i: usize = 1;
-    while i < count {
+    for i in 1..count {
         let joined = put_token(out, place, b"&&");
-        let q = g.comparisons[i];
-        place = put_comparison(out, joined, u, q);
-        i += 1;
+        place = put_comparison(out, joined, u, g.comparisons[i]);
     }
     put_token(out, place, closing)
 }
@@ -84,12 +81,12 @@ fn put_mark(out: &mut [u8], at: usize, label: Label) -> usize
     }
 }
 
+#[tactic(auto, unfolding(reader_record::specs::Record::channel))]
 fn channel_of(label: Label) -> usize
     ensures { result ≡ channel label }
 {
     match label {
-        Label::Input(c) => c as usize,
-        Label::Output(c) => c as usize,
+        Label::Input(c) | Label::Output(c) => usize::from(c),
     }
 }
 
@@ -132,15 +129,6 @@ fn put_label(
     put_token(out, mark, b";")
 }
 
-fn either(a: bool, b: bool) -> bool
-    ensures { result ≡ (a || b) }
-{
-    if a {
-        return true;
-    }
-    b
-}
-
 // What opens the assignments, or what joins one to those before it.
 fn put_lead(out: &mut [u8], at: usize, some: bool) -> usize
     ensures { PutsTokens out.old at (lead some ∷ []) out.new result }
@@ -177,12 +165,10 @@ fn put_assignments(
 {
     let mut place = at;
     let mut some = false;
-    let mut i: usize = 0;
-    while i < clocks {
+    for i in 0..clocks {
         let a = all[i];
         place = put_assignment(out, place, u, i, a, some);
-        some = either(some, a.made);
-        i += 1;
+        some |= a.made;
     }
     if some {
         return put_token(out, place, b";");

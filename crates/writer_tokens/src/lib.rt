@@ -62,10 +62,8 @@ fn put_underscores(out: &mut [u8], at: usize, u: usize) -> usize
     ensures { Puts out.old at (replicate u underscore) out.new result }
 {
     let mut place = at;
-    let mut i: usize = 0;
-    while i < u {
+    for _ in 0..u {
         place = put_byte(out, place, UNDERSCORE);
-        i += 1;
     }
     place
 }

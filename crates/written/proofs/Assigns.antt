@@ -1,5 +1,5 @@
 -- The assignments of an edge that are written are read back.
-use Rattle.std.specs.Prelude.{◌≡◌, Bool, true, false, eqb, length, get_or}
+use Rattle.std.specs.Prelude.{◌≡◌, Bool, true, false, Result, Ok, Err, IsOkAnd, eqb, length, get_or}
 use Rattle.std.proofs.Math.Path.{refl}
 use Rattle.std.proofs.Common.{sym, ap, ◌∙◌, arith, length-set, get_or-set_same, get_or-set_other}
 use mathlib.Core.List.{List, [], ◌∷◌, ◌++◌, append_assoc, map}
@@ -10,11 +10,8 @@ use Rattle.limits.specs.Limits.{clock_limit, shortest_tick}
 use Rattle.reader_record.specs.Record.{no_assignment, written_once}
 use Rattle.reader_record.specs.declared.Name.{Name}
 use Rattle.reader_record.specs.declared.Assignment.{Assignment}
-use Rattle.reader_parts.specs.declared.Status.{Status}
+use Rattle.reader_parts.specs.declared.Fault.{Fault}
 use Rattle.reader_parts.specs.Slots.{first_clock}
-use Rattle.reader_parts.specs.Status.{take}
-use Rattle.reader_parts.specs.Names.{use_name}
-use Rattle.reader_constraints.specs.Constraints.{constant}
 use Rattle.reader_edges.specs.declared.AssignRead.{AssignRead}
 use Rattle.reader_edges.specs.declared.AssignsRead.{AssignsRead}
 use Rattle.reader_edges.specs.Assigns.{no_assignments, then_assigned, with_assignment, assign_next, assign_items, assigns as assigns_next}
@@ -24,20 +21,20 @@ use Rattle.written.specs.Spaced.{Tokens, later_items, part_tokens}
 use Rattle.byte_slices.specs.Decimal.{decimal}
 use Rattle.written.specs.Written.{clock_called, assigned_clocks, assignment_tokens, assignments_tokens}
 use Rattle.written.proofs.Good.{AllowedValues}
-use Rattle.written.proofs.Tokens.{Fine}
+use Rattle.written.proofs.Tokens.{Fine, Ahead}
 use Rattle.written.proofs.Words.{semicolon_fine, becomes_fine, comma_fine, assign_fine}
-use Rattle.written.proofs.Steps.{BeforeTokens, taken, ahead_is}
+use Rattle.written.proofs.Steps.{taken, ahead_is, then_read, read_so}
 use Rattle.written.proofs.Slots.{Uses}
 use Rattle.written.proofs.Constraints.{AmountReads, constant_read, KindKnown, known_used}
 
 -- one assignment
 record AssignmentReads (s : List ℕ) (ws : Tokens) (i v : ℕ) (r : AssignRead) : Type 0 where
-  before : BeforeTokens s ws r.status
+  before : Ahead s r.end ws
   clock_is : r.clock ≡ i
   value_is : r.value ≡ v
 
 record AssignmentsAre (s : List ℕ) (ws : Tokens) (all : List Assignment) (r : AssignsRead) : Type 0 where
-  before : BeforeTokens s ws r.status
+  before : Ahead s r.end ws
   is : r.assignments ≡ all
 
 -- the value that is written for clock i
@@ -56,45 +53,51 @@ Below n (x ∷ xs) = (x < n) × Below n xs
 module _ {s : List ℕ} {names : List Name} {clocks : ℕ} (u : ℕ)
     (known : KindKnown s names first_clock clocks (clock_called u))
     (few : clocks ≤ clock_limit) (all : List Assignment) (allowed : AllowedValues clocks all) where
-  assignment_read : (i : ℕ) → i < clocks → {ws : Tokens} {st : Status}
-      → BeforeTokens s (assignment_tokens u all i ++ ws) st
-      → AssignmentReads s ws i (value_of all i) (assign_next shortest_tick s st names)
+  assignment_read : (i : ℕ) → i < clocks → (ws : Tokens) {p : ℕ} → Ahead s p (assignment_tokens u all i ++ ws)
+      → IsOkAnd (assign_next shortest_tick s p names) (AssignmentReads s ws i (value_of all i))
   unfolding assignment_tokens assign_next
-  assignment_read i h {ws} {st} b =
+  assignment_read i h ws b =
       let v : ℕ = (get_or all i no_assignment).value in
-      let c : Uses s (bytes "=" ∷ decimal v ∷ ws) i (use_name s st names first_clock clock_limit false) =
-      known_used known clock_limit i h few b in
-      let given : AmountReads s ws v
-      (constant shortest_tick 0 s (take s (use_name s st names first_clock clock_limit false).status kinds.becomes)) =
-      constant_read 0 (omega arith) (allowed i h) (taken becomes_fine c.before) in
-      record { before = given.before; clock_is = c.number_is; value_is = given.is }
+      then_read _ _ (Uses s (bytes "=" ∷ decimal v ∷ ws) i) (AssignmentReads s ws i v)
+      (known_used known clock_limit i h few b)
+      (λ clock c. then_read _ _ (λ q. Ahead s q (decimal v ∷ ws)) (AssignmentReads s ws i v) (taken becomes_fine c.before)
+      (λ q a. then_read _ _ (AmountReads s ws v) (AssignmentReads s ws i v) (constant_read 0 (omega arith) (allowed i h) a)
+      (λ given n. record { before = n.before; clock_is = c.number_is; value_is = n.is })))
 
-  items_read : (x : ℕ) (xs : List ℕ) (r : List Assignment) → Below clocks (x ∷ xs) → {ws : Tokens} {st : Status}
-      → BeforeTokens s
-      (assignment_tokens u all x ++ (later_items (bytes ",") (bytes ";") (map (assignment_tokens u all) xs) ++ ws)) st
-      → AssignmentsAre s ws (with_clocks all r (x ∷ xs)) (assign_items shortest_tick s names st r)
+  items_read : (x : ℕ) (xs : List ℕ) (r : List Assignment) → Below clocks (x ∷ xs) → (ws : Tokens) {p : ℕ}
+      → Ahead s p
+      (assignment_tokens u all x ++ (later_items (bytes ",") (bytes ";") (map (assignment_tokens u all) xs) ++ ws))
+      → IsOkAnd (assign_items shortest_tick s names p r) (AssignmentsAre s ws (with_clocks all r (x ∷ xs)))
   unfolding later_items with_clocks Below
-  items_read x [] r h {ws} {st} b =
-      let a : AssignmentReads s (bytes ";" ∷ ws) x (value_of all x) (assign_next shortest_tick s st names) =
-      assignment_read x h.0 b in
-      rw (
-        items_last shortest_tick s names st r refl (ahead_is semicolon_fine kinds.comma a.before),
-        a.clock_is,
-        a.value_is,
-      )
-      (record { before = taken semicolon_fine a.before; is = refl })
-  items_read x (y ∷ xs) r h {ws} {st} b =
-      let a : AssignmentReads s
-      (bytes "," ∷
-      ((assignment_tokens u all y ++ later_items (bytes ",") (bytes ";") (map (assignment_tokens u all) xs)) ++ ws)) x
-      (value_of all x) (assign_next shortest_tick s st names) = assignment_read x h.0 b in
-      rw (
-        items_more shortest_tick s names st r refl (ahead_is comma_fine kinds.comma a.before),
-        a.clock_is,
-        a.value_is,
-      )
-      (items_read y xs (with_assignment r x (value_of all x)) h.1
-      (rw append_assoc at (taken comma_fine a.before)))
+  items_read x [] r h ws {p} b =
+      by (assign_next shortest_tick s p names) refl (assignment_read x h.0 (bytes ";" ∷ ws) b)
+    where
+      by : (a : Result AssignRead Fault) → a ≡ assign_next shortest_tick s p names
+          → IsOkAnd a (AssignmentReads s (bytes ";" ∷ ws) x (value_of all x))
+          → IsOkAnd (assign_items shortest_tick s names p r) (AssignmentsAre s ws (with_clocks all r (x ∷ [])))
+      by (Err f) e a = absurd a
+      by (Ok y) e a =
+          rw (items_last shortest_tick s names p r e (ahead_is semicolon_fine kinds.comma a.before))
+          (then_read _ _ (λ q. Ahead s q ws) (AssignmentsAre s ws (with_clocks all r (x ∷ [])))
+          (taken semicolon_fine a.before)
+          (λ q d. record { before = d; is = rw (a.clock_is, a.value_is) }))
+  items_read x (y ∷ xs) r h ws {p} b =
+      by (assign_next shortest_tick s p names) refl (assignment_read x h.0 (bytes "," ∷ rest) b)
+      (λ q d. items_read y xs (with_assignment r x (value_of all x)) h.1 ws (rw append_assoc at d))
+    where
+      rest : Tokens
+      rest = (assignment_tokens u all y ++ later_items (bytes ",") (bytes ";") (map (assignment_tokens u all) xs)) ++ ws
+
+      by : (a : Result AssignRead Fault) → a ≡ assign_next shortest_tick s p names
+          → IsOkAnd a (AssignmentReads s (bytes "," ∷ rest) x (value_of all x))
+          → ((q : ℕ) → Ahead s q rest → IsOkAnd (assign_items shortest_tick s names q (with_assignment r x (value_of all x)))
+          (AssignmentsAre s ws (with_clocks all r (x ∷ y ∷ xs))))
+          → IsOkAnd (assign_items shortest_tick s names p r) (AssignmentsAre s ws (with_clocks all r (x ∷ y ∷ xs)))
+      by (Err f) e a more = absurd a
+      by (Ok z) e a more =
+          rw (items_more shortest_tick s names p r e (ahead_is comma_fine kinds.comma a.before), a.clock_is, a.value_is)
+          (then_read _ _ (λ q. Ahead s q rest) (AssignmentsAre s ws (with_clocks all r (x ∷ y ∷ xs)))
+          (taken comma_fine a.before) more)
 
 -- the clocks that are written are below the end of their row
 clocks_below : (all : List Assignment) (a m n : ℕ) → a + m ≤ n → Below n (assigned_clocks all a m)
@@ -176,7 +179,7 @@ assigned_again all a (suc m) r h =
 
 pub record AssignmentsRead (s : List ℕ) (ws : Tokens) (clocks : ℕ) (all : List Assignment)
     (r : AssignsRead) : Type 0 where
-  pub before : BeforeTokens s ws r.status
+  pub before : Ahead s r.end ws
   pub same : (i : ℕ) → i < clocks
       → get_or r.assignments i no_assignment ≡ written_once (get_or all i no_assignment)
   pub no_more : (i : ℕ) → clocks ≤ i → get_or r.assignments i no_assignment ≡ no_assignment
@@ -191,28 +194,32 @@ module _ {s : List ℕ} {names : List Name} {clocks : ℕ} (u : ℕ)
     (few : clocks ≤ clock_limit) (all : List Assignment) (allowed : AllowedValues clocks all) where
   -- `assign` and its items, or nothing
   assign_part : (xs : List ℕ) → Below clocks xs → {w : List ℕ} {j : ℕ} → Fine w j → eqb j kinds.assign ≡ false
-      → {ws : Tokens} {st : Status}
-      → BeforeTokens s
-      (part_tokens (bytes "assign" ∷ []) (bytes ",") (bytes ";") (map (assignment_tokens u all) xs) ++ (w ∷ ws)) st
-      → AssignmentsAre s (w ∷ ws) (with_clocks all no_assignments xs) (assigns_next shortest_tick s st names)
+      → (ws : Tokens) {p : ℕ}
+      → Ahead s p
+      (part_tokens (bytes "assign" ∷ []) (bytes ",") (bytes ";") (map (assignment_tokens u all) xs) ++ (w ∷ ws))
+      → IsOkAnd (assigns_next shortest_tick s p names) (AssignmentsAre s (w ∷ ws) (with_clocks all no_assignments xs))
   unfolding part_tokens assigns_next with_clocks
-  assign_part [] h f apart b = rw (ahead_is f kinds.assign b, apart) (record { before = b; is = refl })
-  assign_part (x ∷ xs) h f apart b =
+  assign_part [] h f apart ws b = rw (ahead_is f kinds.assign b, apart) (record { before = b; is = refl })
+  assign_part (x ∷ xs) h {w} f apart ws b =
+      let given : Tokens =
+      assignment_tokens u all x ++ later_items (bytes ",") (bytes ";") (map (assignment_tokens u all) xs) in
       rw (ahead_is assign_fine kinds.assign b)
-      (items_read u known few all allowed x xs no_assignments h (rw append_assoc at (taken assign_fine b)))
+      (then_read _ _ (λ q. Ahead s q (given ++ (w ∷ ws)))
+      (AssignmentsAre s (w ∷ ws) (with_clocks all no_assignments (x ∷ xs))) (taken assign_fine b)
+      (λ q a. items_read u known few all allowed x xs no_assignments h (w ∷ ws) (rw append_assoc at a)))
 
   pub assignments_read : {w : List ℕ} {j : ℕ} → Fine w j → eqb j kinds.assign ≡ false
-      → {ws : Tokens} {st : Status} → BeforeTokens s (assignments_tokens u clocks all ++ (w ∷ ws)) st
-      → AssignmentsRead s (w ∷ ws) clocks all (assigns_next shortest_tick s st names)
+      → (ws : Tokens) {p : ℕ} → Ahead s p (assignments_tokens u clocks all ++ (w ∷ ws))
+      → IsOkAnd (assigns_next shortest_tick s p names) (AssignmentsRead s (w ∷ ws) clocks all)
   unfolding assignments_tokens no_assignments
-  assignments_read {w} {j} f apart {ws} {st} b =
-      let r : AssignmentsAre s (w ∷ ws) (with_clocks all no_assignments (assigned_clocks all 0 clocks))
-      (assigns_next shortest_tick s st names) =
-      assign_part (assigned_clocks all 0 clocks) (clocks_below all 0 clocks clocks (omega arith)) f apart b in
+  assignments_read {w} f apart ws b =
       let q : Assigned all 0 clocks no_assignments (with_clocks all no_assignments (assigned_clocks all 0 clocks)) =
       assigned_again all 0 clocks no_assignments (omega arith) in
-      record {
+      read_so _ (AssignmentsAre s (w ∷ ws) (with_clocks all no_assignments (assigned_clocks all 0 clocks)))
+      (AssignmentsRead s (w ∷ ws) clocks all)
+      (assign_part (assigned_clocks all 0 clocks) (clocks_below all 0 clocks clocks (omega arith)) f apart ws b)
+      (λ x r. record {
         before = r.before;
         same = λ i l. rw r.is (q.new i (omega arith) (omega arith) (none_assigned i));
         no_more = λ i l. rw r.is (q.past i (omega arith) ∙ none_assigned i);
-      }
+      })

@@ -17,13 +17,9 @@ use Rattle.reader_record.specs.declared.Label.TheVariants.{Input, Output}
 use Rattle.reader_record.specs.declared.Location.{Location}
 use Rattle.reader_record.specs.declared.Edge.{Edge}
 use Rattle.reader_record.specs.declared.Text.{Text}
-use Rattle.reader_parts.specs.declared.Declaration.{Declaration}
 use Rattle.reader_parts.specs.Slots.{first_channel, first_clock, first_location}
-use Rattle.reader_parts.specs.Names.{declare}
-use Rattle.reader_constraints.specs.Constraints.{invariant}
 use Rattle.reader_edges.specs.Labels.{fits}
-use Rattle.reader_edges.specs.Edges.{edge_next}
-use Rattle.reader_edges.specs.declared.EdgeRead.{EdgeRead}
+use Rattle.reader_lists.specs.State.{State}
 use Rattle.reader_lists.specs.State.{with_channel, with_clock, with_location, with_edge, marked, direction_by}
 use Rattle.reader_lists.specs.Lists.{channel_item, clock_item, location_item, edge_item}
 use Rattle.reader_formed.proofs.Cases.{stored}
@@ -32,10 +28,11 @@ use Rattle.written.specs.Written.{clock_called, location_called, constraint_toke
 use Rattle.written.proofs.Same.{Spells, SameConstraint, SameEdge, is_input_label, label_direction, direction_after}
 use Rattle.written.proofs.Good.{IsName, Readable}
 use Rattle.written.proofs.Names.{name_fine, called_name}
+use Rattle.written.proofs.Steps.{then_read}
 use Rattle.written.proofs.Slots.{Declares, name_declared}
 use Rattle.written.proofs.Constraints.{ConstraintReads, invariant_read}
 use Rattle.written.proofs.Edges.{NamesKnown, EdgeReads, edge_tokens_read}
-use Rattle.written.proofs.Lists.{ReadsItem}
+use Rattle.written.proofs.Lists.{Reads, ReadsItem}
 use Rattle.written.proofs.Stages.{GoodText, DeclaredNames, channels_found, clocks_found, locations_found, channel_fresh, channel_added, clock_fresh, clock_added, location_fresh, location_added}
 
 -- so many channels are read, and so many edges that use them
@@ -120,13 +117,14 @@ module _ {s : List ℕ} {words : List (List ℕ)} {u : ℕ} {t : Text} (good : G
       let e : r.text.channel_count ≡ i = old.count in
       let m : IsName (get_or words i []) = good.names.own.name i h in
       let few : i < channel_limit = omega (arith, good.channels) in
-      let d : Declares s (get_or words i []) (w ∷ ws) r.names (first_channel + i)
-      (declare s r.status r.names first_channel i channel_limit) =
-      name_declared r.names (name_fine (get_or words i []) m) m.few first_channel channel_limit i few
-      (channel_fresh good b.holds.names_are h) b.before in
-      let n : Name = (declare s r.status r.names first_channel i channel_limit).name in
+      rw e (then_read _ _ (Declares s (get_or words i []) (w ∷ ws) r.names (first_channel + i))
+      (Reads s (w ∷ ws) (Stage s words u t false (suc i) 0 0 0))
+      (name_declared r.names (name_fine (get_or words i []) m) m.few first_channel channel_limit i few
+      (channel_fresh good b.holds.names_are h) b.before)
+      (λ y d.
+      let n : Name = y.name in
       let new : Channel = record { name = n; direction = direction.Unused } in
-      rw (e, lt-leb channel_limit i few) (record {
+      record {
         before = d.before;
         holds = record {
           names_are = rw d.names_are (channel_added good b.holds.names_are h n d.spells);
@@ -147,7 +145,7 @@ module _ {s : List ℕ} {words : List (List ℕ)} {u : ℕ} {t : Text} (good : G
             edges = b.holds.text_is.edges;
           };
         };
-      })
+      }))
 
   pub clock_item_read : (c i : ℕ) → i < t.clock_count
       → ReadsItem s (λ i. clock_called u i ∷ []) (λ i. Stage s words u t true c i 0 0) (clock_item s) i
@@ -157,12 +155,13 @@ module _ {s : List ℕ} {words : List (List ℕ)} {u : ℕ} {t : Text} (good : G
       let e : r.text.clock_count ≡ i = old.count in
       let few : i < clock_limit = omega (arith, good.clocks) in
       let m : IsName (clock_called u i) = called_name "c" refl u i good.underscores (omega arith) in
-      let d : Declares s (clock_called u i) (w ∷ ws) r.names (first_clock + i)
-      (declare s r.status r.names first_clock i clock_limit) =
-      name_declared r.names (name_fine (clock_called u i) m) m.few first_clock clock_limit i few
-      (clock_fresh good b.holds.names_are h) b.before in
-      let n : Name = (declare s r.status r.names first_clock i clock_limit).name in
-      rw (e, lt-leb clock_limit i few) (record {
+      rw e (then_read _ _ (Declares s (clock_called u i) (w ∷ ws) r.names (first_clock + i))
+      (Reads s (w ∷ ws) (Stage s words u t true c (suc i) 0 0))
+      (name_declared r.names (name_fine (clock_called u i) m) m.few first_clock clock_limit i few
+      (clock_fresh good b.holds.names_are h) b.before)
+      (λ y d.
+      let n : Name = y.name in
+      record {
         before = d.before;
         holds = record {
           names_are = rw d.names_are (clock_added good b.holds.names_are h n d.spells);
@@ -178,7 +177,7 @@ module _ {s : List ℕ} {words : List (List ℕ)} {u : ℕ} {t : Text} (good : G
             edges = b.holds.text_is.edges;
           };
         };
-      })
+      }))
 
   module _ (formed : Readable t) where
     pub location_item_read : (c i : ℕ) → i < t.location_count
@@ -192,19 +191,20 @@ module _ {s : List ℕ} {words : List (List ℕ)} {u : ℕ} {t : Text} (good : G
         let few : i < location_limit = omega (arith, good.locations) in
         let m : IsName (location_called u i) = called_name "l" refl u i good.underscores (omega arith) in
         let g : Tokens = constraint_tokens (bytes "{") (bytes "}") u (invariant_of t i) ++ (w ∷ ws) in
-        let y : Declaration = declare s r.status r.names first_location i location_limit in
-        let d : Declares s (location_called u i) g r.names (first_location + i) y =
-        name_declared r.names (name_fine (location_called u i) m) m.few first_location location_limit i few
-        (location_fresh good b.holds.names_are h) b.before in
+        let read : State → Type 0 = Reads s (w ∷ ws) (Stage s words u t true c t.clock_count (suc i) 0) in
+        rw e (then_read _ _ (Declares s (location_called u i) g r.names (first_location + i)) read
+        (name_declared r.names (name_fine (location_called u i) m) m.few first_location location_limit i few
+        (location_fresh good b.holds.names_are h) b.before)
+        (λ y d.
         let after : DeclaredNames s words u t true c t.clock_count (suc i) y.names =
         rw d.names_are (location_added good b.holds.names_are h y.name d.spells) in
-        let v : ConstraintReads s (w ∷ ws) (invariant_of t i) (invariant shortest_tick s y.status y.names) =
-        invariant_read u (clocks_found good after (omega arith)) good.clocks (invariant_of t i)
+        then_read _ _ (ConstraintReads s (w ∷ ws) (invariant_of t i)) read
+        (invariant_read u (clocks_found good after (omega arith)) good.clocks (invariant_of t i)
         (formed.invariant i h)
-        (λ q l. formed.upper i q h l) f apart d.before in
-        let new : Location =
-        record { name = y.name; invariant = (invariant shortest_tick s y.status y.names).constraint } in
-        rw (e, lt-leb location_limit i few) (record {
+        (λ q l. formed.upper i q h l) f apart ws d.before)
+        (λ x v.
+        let new : Location = record { name = y.name; invariant = x.constraint } in
+        record {
           before = v.before;
           holds = record {
             names_are = after;
@@ -224,7 +224,7 @@ module _ {s : List ℕ} {words : List (List ℕ)} {u : ℕ} {t : Text} (good : G
               edges = b.holds.text_is.edges;
             };
           };
-        })
+        })))
 
     pub edge_item_read : (i : ℕ) → i < t.edge_count
         → ReadsItem s (λ i. edge_tokens words u t.clock_count (edge t i))
@@ -253,9 +253,10 @@ module _ {s : List ℕ} {words : List (List ℕ)} {u : ℕ} {t : Text} (good : G
           clock_names = clocks_found good d (omega arith);
           location_names = locations_found good d (omega arith);
         } in
-        let y : EdgeRead = edge_next shortest_tick s r.status r.names r.text.channels false in
-        let v : EdgeReads s (w ∷ ws) t.clock_count (edge t i) y =
-        edge_tokens_read words u known (edge t i)
+        rw (n, lt-leb edge_limit i few)
+        (then_read _ _ (EdgeReads s (w ∷ ws) t.clock_count (edge t i))
+        (Reads s (w ∷ ws) (Stage s words u t true t.channel_count t.clock_count t.location_count (suc i)))
+        (edge_tokens_read words u known (edge t i)
         (record {
           source = formed.source i h;
           target = formed.target i h;
@@ -265,7 +266,8 @@ module _ {s : List ℕ} {words : List (List ℕ)} {u : ℕ} {t : Text} (good : G
           allowed = formed.assigned i h;
         })
         r.text.channels (rw (uses.direction_is (channel a - 1) k) (fits_before t formed i (omega arith) i h))
-        b.before in
+        (w ∷ ws) b.before)
+        (λ y v.
         let new : Channel =
         record {
           name = (get_or r.text.channels (channel a - 1) no_channel).name;
@@ -273,7 +275,7 @@ module _ {s : List ℕ} {words : List (List ℕ)} {u : ℕ} {t : Text} (good : G
               direction_by (is_input_label a);
         } in
         let room : channel a - 1 < length r.text.channels = omega (arith, uses.size, good.channels) in
-        rw (n, lt-leb edge_limit i few, v.channel_is, v.input_is) (record {
+        rw (v.channel_is, v.input_is) (record {
           before = v.before;
           holds = record {
             names_are = d;
@@ -302,4 +304,4 @@ module _ {s : List ℕ} {words : List (List ℕ)} {u : ℕ} {t : Text} (good : G
               };
             };
           };
-        })
+        })))

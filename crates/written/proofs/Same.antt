@@ -1,5 +1,5 @@
 -- Two records that say the same: their items below the counts are equal, but for the byte places of names.
-use Rattle.std.specs.Prelude.{◌≡◌, Bool, true, false, cond, List, [], ◌++◌, ℕ, zero, suc, ◌-◌, ◌≤◌, ◌<◌, eqb, length, drop, get_or}
+use Rattle.std.specs.Prelude.{◌≡◌, Bool, true, false, cond, List, [], ◌++◌, ℕ, zero, suc, ◌-◌, ◌≤◌, ◌<◌, eqb, length, drop, get_or, Result, Ok}
 use Rattle.reader_record.specs.Record.{no_channel, no_name, no_location, no_assignment, comparison, written_once, assignment, edge, invariant_of, channel}
 use Rattle.reader_record.specs.declared.Name.{Name}
 use Rattle.reader_record.specs.declared.Direction.{Direction}
@@ -9,8 +9,9 @@ use Rattle.reader_record.specs.declared.Label.{Label}
 use Rattle.reader_record.specs.declared.Label.TheVariants.{Input, Output}
 use Rattle.reader_record.specs.declared.Edge.{Edge}
 use Rattle.reader_record.specs.declared.Text.{Text}
-use Rattle.refusals.specs.declared.Verdict.TheVariants.{Accepted}
-use Rattle.reader.specs.declared.Parsed.{Parsed}
+use Rattle.refusals.specs.declared.Refusal.{Refusal}
+use Rattle.refusals.specs.Answers.{answer_of}
+use Rattle.reader.specs.Reading.{record_of}
 use Rattle.written.specs.Written.{clock_called, location_called}
 
 -- the name n is spelled w
@@ -69,6 +70,6 @@ pub record SameText (s : List ℕ) (names : List (List ℕ)) (u : ℕ) (t x : Te
   pub edges : (i : ℕ) → i < t.edge_count → SameEdge t.clock_count (edge t i) (edge x i)
 
 -- what is read is accepted, and is that record
-pub record ReadBack (s : List ℕ) (names : List (List ℕ)) (u : ℕ) (t : Text) (p : Parsed) : Type 0 where
-  pub accepted_is : p.answer ≡ Accepted
-  pub same : SameText s names u t p.text
+pub record ReadBack (s : List ℕ) (names : List (List ℕ)) (u : ℕ) (t : Text) (p : Result Text Refusal) : Type 0 where
+  pub accepted_is : answer_of p ≡ Ok tt
+  pub same : SameText s names u t (record_of p)

@@ -1,30 +1,28 @@
 -- The table of names while a written text is read: a name is found in the slot where it was declared.
-use Rattle.std.specs.Prelude.{◌≡◌, Bool, cond, ℕ, zero, suc, ◌+◌, ◌≤◌, ◌<◌, drop, get_or, set}
+use Rattle.std.specs.Prelude.{◌≡◌, Bool, cond, ℕ, zero, suc, ◌+◌, ◌≤◌, ◌<◌, drop, get_or, set, IsOkAnd}
 use Rattle.std.proofs.Math.Path.{refl, sym, ap}
 use Rattle.std.proofs.Common.{◌∙◌, arith, length-set}
 use Rattle.std.proofs.Math.Bool.{true, false, not}
 use mathlib.Core.List.{List, [], ◌∷◌, ◌++◌, append-nil}
 use Rattle.std.proofs.Math.ListN.{length}
 use Rattle.std.proofs.Math.Seq.{take-append_seam}
-use borrow.Author.Tests.{eq-eqb, lt-ltb, le-leb, lt-leb}
+use borrow.Author.Tests.{eq-eqb, le-ltb, lt-leb}
 use Rattle.reader_tokens.specs.Kinds as kinds
 use Rattle.reader_tokens.specs.Scan.{run, past, agree, same}
 use Rattle.limits.specs.Limits.{largest_name}
 use Rattle.reader_record.specs.Record.{no_name}
 use Rattle.reader_record.specs.declared.Name.{Name}
-use Rattle.reader_parts.specs.declared.Status.{Status}
 use Rattle.reader_parts.specs.declared.Declaration.{Declaration}
 use Rattle.reader_parts.specs.declared.Use.{Use}
 use Rattle.reader_parts.specs.Slots.{name_slots}
-use Rattle.reader_parts.specs.Status.{name_next}
 use Rattle.reader_parts.specs.Names.{differs, slot_of, declare_name, declare, use_of, use_name}
 use Rattle.reader_formed.proofs.Cases.{stored, never}
 use Rattle.pairing.specs.Channels.{spelling, alike}
 use Rattle.pairing.specs.Spelled.{alike_spelled}
 use Rattle.written.specs.Spaced.{Tokens}
-use Rattle.written.proofs.Tokens.{Fine}
+use Rattle.written.proofs.Tokens.{Fine, Ahead}
 use Rattle.written.proofs.Same.{Spells}
-use Rattle.written.proofs.Steps.{BeforeTokens, at, name_taken}
+use Rattle.written.proofs.Steps.{IsNameRead, name_taken, then_read}
 
 -- equal spellings
 agree_same : (w r q : List ℕ) → agree (length w) (w ++ r) (w ++ q) ≡ true
@@ -149,48 +147,34 @@ module _ {s : List ℕ} {full : ℕ → List ℕ} {done : ℕ → Bool} {names :
 
 -- a name is declared in slot k
 pub record Declares (s : List ℕ) (w : List ℕ) (ws : Tokens) (names : List Name) (k : ℕ) (d : Declaration) : Type 0 where
-  pub before : BeforeTokens s ws d.status
+  pub before : Ahead s d.end ws
   pub spells : Spells s d.name w
   pub names_are : d.names ≡ set names k d.name
 
-module _ {s : List ℕ} {w : List ℕ} {ws : Tokens} (names : List Name) (f : Fine w kinds.name)
-    (few : length w ≤ largest_name)
-    (first limit i : ℕ) (room : i < limit) where
-  pub name_declared : ((n : Name) → Spells s n w → slot_of s names n ≡ name_slots) → {st : Status}
-      → BeforeTokens s (w ∷ ws) st
-      → Declares s w ws names (first + i) (declare s st names first i limit)
-  unfolding declare declare_name
-  name_declared new {st} b =
-      go (name_next s st).status (name_next s st).name (name_taken f few b).before (name_taken f few b).spells
-    where
-      go : (q : Status) (n : Name) → BeforeTokens s ws q → Spells s n w
-          → Declares s w ws names (first + i) (declare_name s names first i limit n q)
-      go _ n (at {p} a) y = rw (new n y, lt-leb limit i room) (record {
-        before = at a;
-        spells = y;
-        names_are = refl;
-      })
-
 -- the name of number i is used
 pub record Uses (s : List ℕ) (ws : Tokens) (i : ℕ) (u : Use) : Type 0 where
-  pub before : BeforeTokens s ws u.status
+  pub before : Ahead s u.end ws
   pub number_is : u.number ≡ i
 
 module _ {s : List ℕ} {w : List ℕ} {ws : Tokens} (names : List Name) (f : Fine w kinds.name)
     (few : length w ≤ largest_name)
     (first limit i : ℕ) (room : i < limit) where
-  pub name_used : ((n : Name) → Spells s n w → slot_of s names n ≡ first + i) → {st : Status}
-      → BeforeTokens s (w ∷ ws) st
-      → Uses s ws i (use_name s st names first limit false)
+  pub name_declared : ((n : Name) → Spells s n w → slot_of s names n ≡ name_slots) → {p : ℕ} → Ahead s p (w ∷ ws)
+      → IsOkAnd (declare s p names first i limit) (Declares s w ws names (first + i))
+  unfolding declare declare_name
+  name_declared new b =
+      then_read _ _ (IsNameRead s w ws) (Declares s w ws names (first + i)) (name_taken f few b)
+      (λ r n. rw (new r.name n.spells, lt-leb limit i room)
+      (record { before = n.before; spells = n.spells; names_are = refl }))
+
+  pub name_used : ((n : Name) → Spells s n w → slot_of s names n ≡ first + i) → {p : ℕ} → Ahead s p (w ∷ ws)
+      → IsOkAnd (use_name s p names first limit false) (Uses s ws i)
   unfolding use_name use_of
-  name_used old {st} b =
-      go (name_next s st).status (name_next s st).name (name_taken f few b).before (name_taken f few b).spells
-    where
-      go : (q : Status) (n : Name) → BeforeTokens s ws q → Spells s n w
-          → Uses s ws i (use_of s names first limit false n q)
-      go _ n (at {p} a) y =
-          rw (old n y, le-leb first (first + i) (omega arith), lt-ltb (first + i) (first + limit) (omega arith))
-          (record {
-            before = at a;
-            number_is = omega arith;
-          })
+  name_used old b =
+      then_read _ _ (IsNameRead s w ws) (Uses s ws i) (name_taken f few b)
+      (λ r n. rw (
+        old r.name n.spells,
+        le-ltb (first + i) first (omega arith),
+        lt-leb (first + limit) (first + i) (omega arith),
+      )
+      (record { before = n.before; number_is = omega arith }))

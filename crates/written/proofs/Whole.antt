@@ -1,5 +1,5 @@
 -- A text that is written for a record is read back to that record.
-use Rattle.std.specs.Prelude.{◌≡◌, length, replicate}
+use Rattle.std.specs.Prelude.{Result, Ok, Err, IsOkAnd, ◌≡◌, length, replicate}
 use Rattle.std.proofs.Math.Path.{refl}
 use Rattle.std.proofs.Math.Bool.{true, false}
 use mathlib.Core.List.{List, [], ◌∷◌, ◌++◌}
@@ -11,26 +11,23 @@ use Rattle.limits.specs.Limits.{shortest_tick, channel_limit, largest_text, tick
 use Rattle.reader_record.specs.Record.{no_name}
 use Rattle.reader_record.specs.declared.Text.{Text}
 use Rattle.reader_parts.specs.Slots.{name_slots}
-use Rattle.reader_parts.specs.declared.Status.{Status}
-use Rattle.reader_parts.specs.declared.Status.TheVariants.{At, Refused}
+use Rattle.reader_parts.specs.declared.Fault.{Fault}
 use Rattle.reader_lists.specs.State.{State, no_text}
-use Rattle.refusals.specs.declared.Verdict.TheVariants.{Accepted}
-use Rattle.reader.specs.Reading.{start, channel_part, process_part, clock_part, location_part, init_part, edge_part, read_whole, answer, read_text}
+use Rattle.reader.specs.Reading.{start, read_whole, answer, read_text}
 use Rattle.reader_formed.proofs.Cases.{blank}
-use Rattle.reader_formed.proofs.Going.{Going}
 use Rattle.written.specs.Spaced.{Tokens, part_tokens, numbered_items}
 use Rattle.written.specs.Written.{process_called, location_called, location_tokens, list_tokens, clock_list, location_list, edge_list, text_tokens, written_with}
 use Rattle.written.proofs.Good.{ChannelNames, GoodNames, Readable}
 use Rattle.written.specs.Underscores.{underscores_of, written_text}
 use Rattle.written.proofs.Fewest.{Fewest, underscores_fewest, clash_free}
-use Rattle.written.proofs.Tokens.{first}
+use Rattle.written.proofs.Tokens.{Ahead, first}
 use Rattle.written.proofs.Words.{process_fine, state_fine, closes_fine}
-use Rattle.written.proofs.Steps.{BeforeTokens, at}
+use Rattle.written.proofs.Steps.{then_read}
 use Rattle.written.proofs.Declared.{none_filled}
 use Rattle.written.proofs.Lists.{Reads}
 use Rattle.written.proofs.Stages.{GoodText, DeclaredNames}
 use Rattle.written.proofs.Items.{TextRead, Stage}
-use Rattle.written.proofs.Parts.{EndRead, channel_part_read, process_part_read, clock_part_read, location_part_read, init_part_read, edge_part_read, end_part_read}
+use Rattle.written.proofs.Parts.{InitRead, EndRead, channel_part_read, process_part_read, clock_part_read, location_part_read, init_part_read, edge_part_read, end_part_read}
 use Rattle.written.proofs.Same.{ReadBack}
 
 -- nothing is declared and nothing is read
@@ -77,11 +74,26 @@ location_opened u t formed = by t.location_count refl
     by zero e = absurd (omega (arith, formed.init))
     by (suc n) e = record { rest = _; is = refl }
 
--- a reader that goes on to the end has accepted
-accepted : (st : Status) (x : Text) → Going st → answer st x ≡ record { answer = Accepted; text = x }
-unfolding answer
-accepted (At p) x g = refl
-accepted (Refused f) x g = absurd g
+-- a text that is read to its end is accepted, with its record
+read_back : (s : List ℕ) (words : List (List ℕ)) (u : ℕ) (t : Text) (r : Result State Fault)
+    → IsOkAnd r (EndRead s words u t t.edge_count) → ReadBack s words u t (answer r)
+read_back s words u t (Ok r) e = record {
+  accepted_is = refl;
+  same = record {
+    channel_count = e.holds.stage.text_is.channels.count;
+    clock_count = e.holds.stage.text_is.clocks.count;
+    location_count = e.holds.stage.text_is.locations.count;
+    edge_count = e.holds.stage.text_is.edges.count;
+    init = e.holds.init_is;
+    channel_names = e.holds.stage.text_is.channels.name;
+    directions = e.holds.stage.text_is.channels.direction_is;
+    clock_names = e.holds.stage.text_is.clocks.name;
+    location_names = e.holds.stage.text_is.locations.name;
+    invariants = e.holds.stage.text_is.locations.invariant_is;
+    edges = e.holds.stage.text_is.edges.same;
+  };
+}
+read_back s words u t (Err f) e = absurd e
 
 module _ (words : List (List ℕ)) (u : ℕ) (t : Text) (formed : Readable t)
     (good : GoodNames words u t.channel_count t.clock_count t.location_count)
@@ -96,66 +108,50 @@ module _ (words : List (List ℕ)) (u : ℕ) (t : Text) (formed : Readable t)
   }
 
   -- the parts, one after the other
-  parts_read : (s : List ℕ) → BeforeTokens s (text_tokens words u t) (At 0)
-      → EndRead s words u t t.edge_count (read_whole shortest_tick s)
+  parts_read : (s : List ℕ) → Ahead s 0 (text_tokens words u t)
+      → IsOkAnd (read_whole shortest_tick s) (EndRead s words u t t.edge_count)
   unfolding read_whole text_tokens start
   parts_read s b =
       let c : ℕ = t.channel_count in
       let o : Opened (location_list u t) (bytes "state") = location_opened u t formed in
       let ends : Tokens = bytes "}" ∷ bytes "system" ∷ process_called u ∷ bytes ";" ∷ [] in
-      let inits : Tokens = bytes "init" ∷ location_called u t.init ∷ bytes ";" ∷ (edge_list words u t ++ ends) in
+      let edges : Tokens = edge_list words u t ++ ends in
+      let inits : Tokens = bytes "init" ∷ location_called u t.init ∷ bytes ";" ∷ edges in
+      let placed : Tokens = location_list u t ++ inits in
+      let inside : Tokens = clock_list u t.clock_count ++ placed in
+      let head : Tokens = bytes "process" ∷ process_called u ∷ bytes "(" ∷ bytes ")" ∷ bytes "{" ∷ inside in
       let begun : Reads s (text_tokens words u t) (Stage s words u t false 0 0 0 0) start = record {
         before = b;
         holds = record { names_are = none_declared s words u t; text_is = none_read s words u t };
       } in
-      let p : State = process_part s (channel_part shortest_tick s start) in
-      let named : Reads s (clock_list u t.clock_count ++ (location_list u t ++ inits))
-      (Stage s words u t true c 0 0 0) p =
-      process_part_read good_text (channel_part shortest_tick s start)
-      (channel_part_read good_text process_fine refl start begun) in
-      let clocked : Reads s (bytes "state" ∷ (o.rest ++ inits)) (Stage s words u t true c t.clock_count 0 0)
-      (clock_part shortest_tick s p) =
-      clock_part_read good_text c state_fine refl p (rw o.is at named) in
-      let placed : Reads s inits (Stage s words u t true c t.clock_count t.location_count 0)
-      (location_part shortest_tick s (clock_part shortest_tick s p)) =
-      location_part_read good_text formed c (clock_part shortest_tick s p) (rw o.is clocked) in
-      let q : State = init_part s (location_part shortest_tick s (clock_part shortest_tick s p)) in
-      end_part_read good_text (edge_part shortest_tick s q)
-      (edge_part_read good_text formed closes_fine refl q
-      (init_part_read good_text formed (location_part shortest_tick s (clock_part shortest_tick s p)) placed))
+      let k : ℕ = t.clock_count in
+      let l : ℕ = t.location_count in
+      then_read _ _ (Reads s ends (InitRead s words u t t.edge_count)) (EndRead s words u t t.edge_count)
+      (then_read _ _ (Reads s edges (InitRead s words u t 0)) (Reads s ends (InitRead s words u t t.edge_count))
+      (then_read _ _ (Reads s inits (Stage s words u t true c k l 0)) (Reads s edges (InitRead s words u t 0))
+      (then_read _ _ (Reads s placed (Stage s words u t true c k 0 0)) (Reads s inits (Stage s words u t true c k l 0))
+      (then_read _ _ (Reads s inside (Stage s words u t true c 0 0 0)) (Reads s placed (Stage s words u t true c k 0 0))
+      (then_read _ _ (Reads s head (Stage s words u t false c 0 0 0)) (Reads s inside (Stage s words u t true c 0 0 0))
+      (channel_part_read good_text process_fine refl _ start begun)
+      (process_part_read good_text inside))
+      (λ q a. rw o.is (clock_part_read good_text c state_fine refl (o.rest ++ inits) q (rw o.is at a))))
+      (λ q a. location_part_read good_text formed c inits q a))
+      (init_part_read good_text formed edges))
+      (edge_part_read good_text formed closes_fine refl _))
+      (end_part_read good_text)
 
-  whole_read : EndRead (written_with words u t) words u t t.edge_count
-      (read_whole shortest_tick (written_with words u t))
+  whole_read : IsOkAnd (read_whole shortest_tick (written_with words u t)) (EndRead (written_with words u t) words u t
+      t.edge_count)
   unfolding written_with
-  whole_read = parts_read (written_with words u t) (at (first refl))
+  whole_read = parts_read (written_with words u t) (first refl)
 
   -- a text that is written from a record is read to that record
   pub written_read : length (written_with words u t) ≤ largest_text
       → ReadBack (written_with words u t) words u t (read_text shortest_tick (written_with words u t))
   unfolding read_text tick_allowed
   written_read h =
-      let s : List ℕ = written_with words u t in
-      let e : EndRead s words u t t.edge_count (read_whole shortest_tick s) = whole_read in
-      rw (
-        le-ltb largest_text (length s) h,
-        accepted (read_whole shortest_tick s).status
-            (read_whole shortest_tick s).text e.goes_on,
-      ) (record {
-        accepted_is = refl;
-        same = record {
-          channel_count = e.holds.stage.text_is.channels.count;
-          clock_count = e.holds.stage.text_is.clocks.count;
-          location_count = e.holds.stage.text_is.locations.count;
-          edge_count = e.holds.stage.text_is.edges.count;
-          init = e.holds.init_is;
-          channel_names = e.holds.stage.text_is.channels.name;
-          directions = e.holds.stage.text_is.channels.direction_is;
-          clock_names = e.holds.stage.text_is.clocks.name;
-          location_names = e.holds.stage.text_is.locations.name;
-          invariants = e.holds.stage.text_is.locations.invariant_is;
-          edges = e.holds.stage.text_is.edges.same;
-        };
-      })
+      rw (le-ltb largest_text (length (written_with words u t)) h)
+      (read_back (written_with words u t) words u t (read_whole shortest_tick (written_with words u t)) whole_read)
 
 -- the same with the fewest underscores, which are always few enough
 pub written_text_read : (words : List (List ℕ)) (t : Text) → Readable t → ChannelNames words t.channel_count

@@ -1,5 +1,5 @@
 -- A token that is read as a name is a name.
-use Rattle.std.specs.Prelude.{◌≡◌, refl, Bool, true, false, List, [], ◌∷◌, ℕ, suc, ◌+◌, ◌-◌, ◌≤◌, ◌<◌, eqb, ltb, length, take, drop, get_or}
+use Rattle.std.specs.Prelude.{◌≡◌, refl, Bool, true, false, List, [], ◌∷◌, ℕ, suc, ◌+◌, ◌-◌, ◌≤◌, ◌<◌, eqb, ltb, length, take, drop, get_or, Result, IfOk}
 use Rattle.std.proofs.Math.Path.{sym, ap₂}
 use Rattle.std.proofs.Common.{ap, ◌∙◌, take-append-drop, drop-cons, get_or-take, length-take-le, eqb-true, ltb-true, ltb-false}
 use native.Mathlib.Omega.{arith}
@@ -9,12 +9,10 @@ use Rattle.reader_tokens.specs.Scan.{is_space, is_letter, is_digit, is_part, run
 use Rattle.reader_tokens.specs.Tokens.{words, word_from, word_kind, is_pair, is_single, mark_kind, mark_at, word_at, token_from, token_at}
 use Rattle.reader_tokens.specs.declared.Token.{Token}
 use Rattle.limits.specs.Limits.{largest_name}
-use Rattle.reader_parts.specs.declared.Status.{Status}
-use Rattle.reader_parts.specs.declared.Status.TheVariants.{At, Refused}
+use Rattle.reader_parts.specs.declared.Fault.{Fault}
 use Rattle.reader_parts.specs.declared.NameRead.{NameRead}
-use Rattle.reader_parts.specs.Status.{name_of, name_next}
+use Rattle.reader_parts.specs.Stages.{name_of, name_next}
 use Rattle.reader_formed.proofs.Cases.{split, never}
-use Rattle.reader_formed.proofs.Going.{Going}
 use Rattle.written.proofs.Good.{IsName}
 use Rattle.written.proofs.Scanned.{word_front}
 use Rattle.pairing.specs.Channels.{spelling}
@@ -111,19 +109,18 @@ of_name s q k few =
 
 named : (s : List ℕ) (t : Token)
     → (t.kind ≡ kinds.name → t.end - t.place ≤ largest_name → IsName (take (t.end - t.place) (drop t.place s)))
-    → Going (name_of t).status → IsName (spelling s (name_of t).name)
+    → IfOk (name_of t) (λ r. IsName (spelling s r.name))
 unfolding name_of
 named s t f =
     split P (eqb t.kind kinds.name)
     (λ e. split P (ltb largest_name (t.end - t.place))
-    (λ _ g. absurd g)
-    (λ l _. f (eqb-true t.kind kinds.name e) (ltb-false largest_name (t.end - t.place) l)))
-    (λ _ g. absurd g)
+    (λ _. tt)
+    (λ l. f (eqb-true t.kind kinds.name e) (ltb-false largest_name (t.end - t.place) l)))
+    (λ _. tt)
   where
-    P : NameRead → Type 0
-    P r = Going r.status → IsName (spelling s r.name)
+    P : Result NameRead Fault → Type 0
+    P r = IfOk r (λ n. IsName (spelling s n.name))
 
-pub name_is : (s : List ℕ) (st : Status) → Going (name_next s st).status → IsName (spelling s (name_next s st).name)
+pub name_is : (s : List ℕ) (p : ℕ) → IfOk (name_next s p) (λ r. IsName (spelling s r.name))
 unfolding name_next token_at
-name_is s (Refused f) g = absurd g
-name_is s (At p) g = named s (token_at s p) (of_name s (past is_space s p)) g
+name_is s p = named s (token_at s p) (of_name s (past is_space s p))

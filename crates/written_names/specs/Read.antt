@@ -1,139 +1,104 @@
 -- The channels of an accepted text have names that differ: they can be written again.
-use Rattle.std.specs.Prelude.{◌≡◌, List, [], ℕ, ◌+◌, ◌<◌, ltb, length, get_or, drop}
+use Rattle.std.specs.Prelude.{◌≡◌, List, [], ℕ, ◌+◌, ◌<◌, ltb, length, get_or, drop, Result, Ok, Err, IfOk}
 use Rattle.std.proofs.Math.Path.{refl}
-use Rattle.std.proofs.Common.{sym, ◌∙◌, subst, arith, take-append-drop, length-drop, length-take-le}
-use Rattle.std.proofs.Math.Bool.{false}
+use Rattle.std.proofs.Common.{sym, ◌∙◌, arith, take-append-drop, length-drop, length-take-le}
+use Rattle.std.proofs.lemmas.Result.{IfOk-weaker}
 use Rattle.reader_tokens.specs.Kinds as kinds
-use Rattle.limits.specs.Limits.{location_limit, largest_text, tick_allowed}
+use Rattle.limits.specs.Limits.{largest_text, tick_allowed}
 use Rattle.reader_record.specs.declared.Name.{Name}
 use Rattle.reader_record.specs.declared.Text.{Text}
-use Rattle.reader_parts.specs.declared.Status.{Status}
-use Rattle.reader_parts.specs.declared.Status.TheVariants as status
-use Rattle.reader_parts.specs.Slots.{process_slot, process_limit, first_location}
-use Rattle.reader_parts.specs.Status.{ahead}
+use Rattle.reader_parts.specs.declared.Fault.{Fault}
+use Rattle.reader_parts.specs.Stages.{◌>>=◌, ahead}
+use Rattle.reader_parts.specs.Binds.{after}
 use Rattle.reader_lists.specs.Lists.{Item, items}
-use Rattle.reader_lists.specs.Lists.Item.{Clock, Location, Edge}
+use Rattle.reader_lists.specs.Lists.Item.{Channel, Clock, Location, Edge}
 use Rattle.reader_lists.specs.State.{State, no_text, next_token, with_init}
-use Rattle.refusals.specs.declared.Verdict.{Verdict}
-use Rattle.refusals.specs.declared.Verdict.TheVariants.{Accepted, Refused}
-use Rattle.reader.specs.declared.Parsed.{Parsed}
-use Rattle.reader.specs.Reading.{start, list_part, channel_part, process_part, location_part, init_part, end_part, read_whole, refused, answer, read_text}
+use Rattle.refusals.specs.declared.Refusal.{Refusal}
+use Rattle.refusals.specs.Answers.{answer_of}
+use Rattle.reader.specs.Reading.{start, list_part, channel_part, process_read, process_part, location_part, init_read, init_part, end_read, end_part, read_whole, answer, record_of, read_text}
 use Rattle.reader_formed.specs.Promise.{channel_name, Within}
 use Rattle.reader_formed.proofs.Cases.{split, either, never, when_equal}
-use Rattle.reader_formed.proofs.Going.{Going, take_going}
-use Rattle.reader_formed.proofs.Declared.{declared, used}
-use Rattle.reader_formed.proofs.Lists.{list_keeps}
-use Rattle.reader_formed.proofs.Formed.{read_names, read_differ}
+use Rattle.reader_formed.proofs.Formed.{of_accepted, read_names, read_differ}
 use Rattle.written.proofs.Good.{ChannelNames}
 use Rattle.written.proofs.Same.{Spells}
 use Rattle.pairing.specs.Channels.{spelling, alike}
 use Rattle.pairing.specs.Spelled.{spelled_alike}
 use Rattle.bitmaps.specs.BitLaws.{tab_at}
 use Rattle.written_names.specs.Spelled.{channel_spellings}
-use Rattle.written_names.specs.Channels.{NamedChannels, then_keeps, next_keeps_names, channel_list_keeps, SameNames, names_self, names_then, same_named, clocks_names, locations_names, edges_names}
-
--- a reader that goes on after a part went on before it, and the channels are as before
-pub record KeepsChannels (r q : State) : Type 0 where
-  pub going : Going q.status → Going r.status
-  pub same_names : SameNames r.text q.text
-
-channels_then : {r q p : State} → KeepsChannels r q → KeepsChannels q p → KeepsChannels r p
-channels_then a b =
-    record { going = λ g. a.going (b.going g); same_names = names_then a.same_names b.same_names }
+use Rattle.written_names.specs.Channels.{NamedChannels, KeepsNames, then_keeps, next_keeps_names, channel_list_keeps, SameNames, names_self, same_named, LeavesNames, leaves_then, next_leaves, clocks_names, locations_names, edges_names}
 
 module _ (period : ℕ) (s : List ℕ) where
-  next_passes : (r : State) (k : ℕ) → KeepsChannels r (next_token s r k)
-  unfolding next_token
-  next_passes r k = record { going = λ g. take_going s r.status k g; same_names = names_self r.text }
+  -- a part that leaves the names of the channels keeps that they are names
+  part_keeps : (r : State) {q : Result State Fault} → LeavesNames r q → KeepsNames s r q
+  part_keeps r {q} a = record {
+    named = λ h. IfOk-weaker q (λ x. SameNames r.text x.text) (λ x. NamedChannels s x.text) (λ x b. same_named b h) a;
+  }
 
-  list_passes : (k : Item) → ((r : State) → SameNames r.text (items period k s r).text) → (r : State)
-      → KeepsChannels r (items period k s r)
-  list_passes k f r = record { going = (list_keeps s period {a = 0} k r).going; same_names = f r }
-
-  optional_passes : (word : ℕ) (k : Item) → ((r : State) → SameNames r.text (items period k s r).text)
-      → (r : State)
-      → KeepsChannels r (list_part period word k s r)
+  optional_passes : (word : ℕ) (k : Item) → ((r : State) → LeavesNames r (items period k s r)) → (r : State)
+      → LeavesNames r (list_part period word k s r)
   unfolding list_part
   optional_passes word k f r =
-      either (λ (q : State). KeepsChannels r q) (ahead s r.status word)
-      (channels_then (next_passes r word) (list_passes k f (next_token s r word)))
-      (record { going = λ g. g; same_names = names_self r.text })
+      either (λ (q : Result State Fault). LeavesNames r q) (ahead s r.place word)
+      (leaves_then r (next_token s word r) (items period k s) (next_leaves period s word r) f)
+      (names_self r.text)
 
-  process_passes : (r : State) → KeepsChannels r (process_part s r)
-  unfolding process_part next_token
-  process_passes r = record {
-    going = λ g.
-        let a = take_going s _ kinds.left_paren (take_going s _ kinds.right_paren (take_going s _ kinds.opens g)) in
-        take_going s r.status kinds.process (declared s r.names process_slot 0 process_limit _ a).before;
-    same_names = names_self r.text;
-  }
+  process_passes : (r : State) → LeavesNames r (process_part s r)
+  unfolding process_part
+  process_passes r =
+      after (process_read s r.place r.names) _ (λ q. SameNames r.text q.text) (λ d. names_self r.text)
 
-  location_passes : (r : State) → KeepsChannels r (location_part period s r)
+  location_passes : (r : State) → LeavesNames r (location_part period s r)
   unfolding location_part
-  location_passes r = channels_then (next_passes r kinds.state) (list_passes Location (locations_names period s) _)
+  location_passes r =
+      leaves_then r (next_token s kinds.state r) (items period Location s) (next_leaves period s kinds.state r)
+      (locations_names period s)
 
-  init_passes : (r : State) → KeepsChannels r (init_part s r)
-  unfolding init_part next_token with_init
-  init_passes r = record {
-    going = λ g.
-        take_going s r.status kinds.init (used s r.names first_location location_limit (omega arith) false _
-        (take_going s _ kinds.semicolon g)).before;
-    same_names = record { size = refl; count = refl; name = λ c. refl };
-  }
+  init_passes : (r : State) → LeavesNames r (init_part s r)
+  unfolding init_part with_init
+  init_passes r =
+      after (init_read s r.place r.names) _ (λ q. SameNames r.text q.text)
+      (λ u. record { size = refl; count = refl; name = λ c. refl })
 
-  end_passes : (r : State) → KeepsChannels r (end_part s r)
-  unfolding end_part next_token
-  end_passes r = record {
-    going = λ g.
-        take_going s r.status kinds.closes (take_going s _ kinds.system
-        (used s r.names process_slot process_limit (omega arith) false _
-        (take_going s _ kinds.semicolon (take_going s _ kinds.end g))).before);
-    same_names = names_self r.text;
-  }
+  end_passes : (r : State) → LeavesNames r (end_part s r)
+  unfolding end_part
+  end_passes r = after (end_read s r.place r.names) _ (λ q. SameNames r.text q.text) (λ p. names_self r.text)
 
-  -- from the channels' part to the end
-  rest_passes : KeepsChannels (channel_part period s start) (read_whole period s)
-  unfolding read_whole
-  rest_passes =
-      channels_then (process_passes _)
-      (channels_then (optional_passes kinds.clock Clock (clocks_names period s) _) (channels_then (location_passes _)
-      (channels_then (init_passes _)
-      (channels_then (optional_passes kinds.trans Edge (edges_names period s) _) (end_passes _)))))
-
-  channels_named : Going (channel_part period s start).status → NamedChannels s (channel_part period s start).text
-  unfolding channel_part start no_text
+  channels_named : KeepsNames s start (channel_part period s start)
+  unfolding channel_part
   channels_named =
-      either (λ (q : State). Going q.status → NamedChannels s q.text) (ahead s start.status kinds.broadcast)
-      (λ g. (then_keeps s (next_keeps_names s start kinds.broadcast)
-      (then_keeps s (next_keeps_names s _ kinds.chan) (channel_list_keeps period s _))).named g none)
-      (λ g. none)
-    where
-      none : NamedChannels s no_text
-      none = record { size = refl; name = λ c l. absurd (omega arith) }
+      either (λ (q : Result State Fault). KeepsNames s start q) (ahead s start.place kinds.broadcast)
+      (then_keeps s (next_token s kinds.broadcast start >>= next_token s kinds.chan) (items period Channel s)
+      (then_keeps s (next_token s kinds.broadcast start) (next_token s kinds.chan)
+      (next_keeps_names s kinds.broadcast start) (next_keeps_names s kinds.chan))
+      (channel_list_keeps period s))
+      (record { named = λ h. h })
 
-  whole_named : Going (read_whole period s).status → NamedChannels s (read_whole period s).text
-  whole_named g = same_named rest_passes.same_names (channels_named (rest_passes.going g))
+  whole_named : IfOk (read_whole period s) (λ r. NamedChannels s r.text)
+  unfolding read_whole start no_text
+  whole_named =
+      (then_keeps s _ _ (then_keeps s _ _ (then_keeps s _ _ (then_keeps s _ _ (then_keeps s _ _ (then_keeps s _ _
+      channels_named (λ r. part_keeps r (process_passes r)))
+      (λ r. part_keeps r (optional_passes kinds.clock Clock (clocks_names period s) r)))
+      (λ r. part_keeps r (location_passes r)))
+      (λ r. part_keeps r (init_passes r)))
+      (λ r. part_keeps r (optional_passes kinds.trans Edge (edges_names period s) r)))
+      (λ r. part_keeps r (end_passes r))).named
+      (record { size = refl; name = λ c l. absurd (omega arith) })
 
-abbrev IsAccepted : Verdict → Type 0
-IsAccepted Accepted = Unit {0}
-IsAccepted (Refused f) = ⊥
+answered : (s : List ℕ) (r : Result State Fault) → IfOk r (λ q. NamedChannels s q.text)
+    → IfOk (answer r) (NamedChannels s)
+answered s (Ok r) f = f
+answered s (Err x) f = tt
 
-answered : (s : List ℕ) (st : Status) (t : Text) → (Going st → NamedChannels s t) → IsAccepted (answer st t).answer
-    → NamedChannels s (answer st t).text
-unfolding answer refused
-answered s (status.At p) t f a = f tt
-answered s (status.Refused x) t f a = absurd a
-
-text_named :
-    (period : ℕ) (s : List ℕ) → IsAccepted (read_text period s).answer → NamedChannels s (read_text period s).text
-unfolding read_text refused
+text_named : (period : ℕ) (s : List ℕ) → IfOk (read_text period s) (NamedChannels s)
+unfolding read_text
 text_named period s =
     split P (tick_allowed period)
-    (λ _. split P (ltb largest_text (length s)) (λ _ a. absurd a) (λ _. answered s _ _ (whole_named period s)))
-    (λ _ a. absurd a)
+    (λ _. split P (ltb largest_text (length s)) (λ _. tt) (λ _. answered s (read_whole period s) (whole_named period s)))
+    (λ _. tt)
   where
-    P : Parsed → Type 0
-    P r = IsAccepted r.answer → NamedChannels s r.text
+    P : Result Text Refusal → Type 0
+    P r = IfOk r (NamedChannels s)
 
 -- each of the spellings
 pub spelling_at :
@@ -152,9 +117,9 @@ within_spells s n w = record {
   there = sym (take-append-drop n.len (drop n.place s));
 }
 
-module _ (period : ℕ) (s : List ℕ) (a : (read_text period s).answer ≡ Accepted) where
+module _ (period : ℕ) (s : List ℕ) (a : answer_of (read_text period s) ≡ Ok tt) where
   abbrev t : Text
-  t = (read_text period s).text
+  t = record_of (read_text period s)
 
   -- two channels with one spelling are one
   one_spelling :
@@ -173,6 +138,7 @@ module _ (period : ℕ) (s : List ℕ) (a : (read_text period s).answer ≡ Acce
   -- the channels of an accepted text: names that differ
   pub channels_writable : ChannelNames (channel_spellings s t) t.channel_count
   channels_writable = record {
-    name = λ i h. rw (spelling_at s t i h) ((text_named period s (subst IsAccepted (sym a) tt)).name i h);
+    name = λ i h. rw (spelling_at s t i h)
+        ((of_accepted (NamedChannels s) (read_text period s) (text_named period s) a).name i h);
     differ = λ i j h l e. one_spelling i j h l (sym (spelling_at s t i h) ∙ e ∙ spelling_at s t j l);
   }

@@ -1,4 +1,3 @@
-use borrow.Author.Tests.{not-true, not-false}
 use Rattle.systems.specs.Tests.{◌⇒◌, stays}
 use Rattle.move_tables.specs.MoveLaws.{decode_none, decode_some}
 use Rattle.clocks_safe.specs.Test.{input_passes}

@@ -1,5 +1,4 @@
 -- An input that decides takes the state out; without one, a step of the system's own has to decide.
-use borrow.Author.Rules.{rules}
 use mathlib.Core.Path.{sym, ◌∙◌}
 use Rattle.clocks_safe.proofs.TestLaws.{input_decides, own_decides}
 use Rattle.clocks_safe.proofs.passes.Goals as goal

@@ -1,6 +1,5 @@
 use native.Mathlib.Omega.{arith}
 use Rattle.clocks_safe.proofs.SettleLaws.{copied_counted, safe_answered}
-use borrow.Author.Rules.{rules}
 use Rattle.clocks_safe.proofs.safe.Goals as goal
 
 pub bytes_for-m-requires : goal.bytes_for-m-requires
@@ -14,21 +13,19 @@ copy-requires c =
 
 pub settle-requires : goal.settle-requires
 settle-requires c =
-    let args = c.before.before.before.before.before.before.before.before.before.before.before.before.args in
-    let pre = c.before.before.before.before.before.before.before.before.before.before.before.before.requires in
-    let copy-call = c.before.before.before.before.before in (
+    let args = c.args in
+    let pre = c.requires in (
       pre.0,
       (
         pre.1.0,
-        copied_counted args.keep.now pre.1.1.0 pre.1.1.1 (rw copy-call.bytes_for-m.ensures at copy-call.copy.ensures)
+        copied_counted args.keep.now pre.1.1.0 pre.1.1.1 (rw c.bytes_for-m.ensures at c.copy.ensures)
             c.count-count.ensures,
       ),
     )
 
 pub returns : goal.returns
 returns c =
-    let args = c.before.before.before.before.before.before.before.before.before.before.before.before.before.before.before.args in
-    let pre = c.before.before.before.before.before.before.before.before.before.before.before.before.before.before.before.requires in
-    let copy-call = c.before.before.before.before.before.before.before.before in
-    safe_answered args.keep.now pre.1.1.0 pre.1.1.1 (rw copy-call.bytes_for-m.ensures at copy-call.copy.ensures) args.moves.now
+    let args = c.args in
+    let pre = c.requires in
+    safe_answered args.keep.now pre.1.1.0 pre.1.1.1 (rw c.bytes_for-m.ensures at c.copy.ensures) args.moves.now
     args.inputs.now c.settle.ensures

@@ -1,19 +1,15 @@
-use borrow.Author.Rules.{rules}
 use native.Mathlib.Omega.{arith}
 use mathlib.Core.Path.{◌≡◌, refl}
-use mathlib.Core.List.{List}
-use Prim.Native.Nat.{ℕ, ◌-◌, ◌≤◌, ◌<◌}
+use Prim.Native.Nat.{◌-◌, ◌<◌}
 use Rattle.bitmaps.specs.PackedLaws.{packed_length}
-use Rattle.clocks_safe.specs.Settle.{Held, Swept}
 use Rattle.clocks_safe.proofs.SettleLaws.{held_start, visit_count, visit_held, visit_swept, held_done}
-use Rattle.clocks_safe.proofs.settle.Invariants.{invariant-loop-s-2, decreases-loop-s-2, invariant-loop-s, decreases-loop-s}
 use Rattle.clocks_safe.proofs.settle.Goals as goal
 
 pub loop-s-init : goal.loop-s-init
 loop-s-init c = held_start c.requires.0 c.requires.1.1
 
 pub loop-s-2-init : goal.loop-s-2-init
-loop-s-2-init c = (omega arith, (refl, (omega arith, (λ k₀ H. H, λ e i l q. absurd (omega arith)))))
+loop-s-2-init c = (refl, omega arith, λ k₀ H. H, λ e i l q. absurd (omega arith))
 
 pub visit-left-requires : goal.visit-left-requires
 visit-left-requires c =
@@ -28,8 +24,8 @@ visit-left-requires c =
           (let q : (loop2-call.s - 1) < args.n = omega arith in q),
           omega (
             arith,
-            packed_length (loop2-call.invariant.1.1.1.0 args.keep.now loop.invariant).is,
-            (loop2-call.invariant.1.1.1.0 args.keep.now loop.invariant).is.room,
+            packed_length (loop2-call.invariant.2 args.keep.now loop.invariant).is,
+            (loop2-call.invariant.2 args.keep.now loop.invariant).is.room,
           ),
         ),
       ),
@@ -41,7 +37,7 @@ overflow_sub-left c =
     let pre = c.requires in
     let loop = c.loop-s in
     let loop2-call = c.loop-s-2 in
-    (visit_count pre.0 (loop2-call.invariant.1.1.1.0 args.keep.now loop.invariant) (loop2-call.s - 1)
+    (visit_count pre.0 (loop2-call.invariant.2 args.keep.now loop.invariant) (loop2-call.s - 1)
     (let q : (loop2-call.s - 1) < args.n = omega arith in q) c.visit-left.ensures).0
 
 pub loop-s-2-preserved : goal.loop-s-2-preserved
@@ -50,39 +46,30 @@ loop-s-2-preserved c =
     let pre = c.requires in
     let loop = c.loop-s in
     let loop2-call = c.loop-s-2 in
-    let loop2-test-call = c.loop-s-2-test in
     let visit-call = c.visit-left in
-    let v = visit_count pre.0 (loop2-call.invariant.1.1.1.0 args.keep.now loop.invariant) (loop2-call.s - 1)
-    (let q : (loop2-call.s - 1) < args.n = omega arith in q) visit-call.ensures in (
+    let below : (loop2-call.s - 1) < args.n = omega arith in
+    let v = visit_count pre.0 (loop2-call.invariant.2 args.keep.now loop.invariant) (loop2-call.s - 1) below visit-call.ensures in (
+      refl,
       omega arith,
-      (
-        refl,
-        (
-          omega arith,
-          (
-            λ k₀ H. visit_held pre.0 (loop2-call.invariant.1.1.1.0 k₀ H)
-                (loop2-call.s - 1) (let q : (loop2-call.s - 1) < args.n = omega arith in q) visit-call.ensures,
-            λ e.
-                let z : visit-call.result ≡ 0 = omega (arith, v.0, loop2-call.invariant.1.1.0) in let y : loop2-call.left
-                ≡ loop.left = omega (arith, v.0, loop2-call.invariant.1.1.0) in
-                visit_swept args.moves.now args.inputs.now args.n args.steps loop2-call.s
-                visit-call.ensures z loop2-test-call.true (loop2-call.invariant.1.1.1.1 y),
-          ),
-        ),
-      ),
+      λ k₀ H. visit_held pre.0 (loop2-call.invariant.2 k₀ H) (loop2-call.s - 1) below visit-call.ensures,
+      λ e.
+          let z : visit-call.result ≡ 0 = omega (arith, v.0, loop2-call.invariant.1) in
+          let y : loop2-call.left ≡ loop.left = omega (arith, v.0, loop2-call.invariant.1) in
+          visit_swept args.moves.now args.inputs.now args.n args.steps loop2-call.s
+          visit-call.ensures z c.loop-s-2-test.true (loop2-call.invariant.3 y),
     )
 
 pub loop-s-preserved : goal.loop-s-preserved
 loop-s-preserved c =
     let args = c.args in
     let loop = c.loop-s in
-    (c.loop-s-2.invariant.1.1.1.0 args.keep.now loop.invariant)
+    (c.loop-s-2.invariant.2 args.keep.now loop.invariant)
 
 pub shape_of-keep : goal.shape_of-keep
 shape_of-keep c =
     let args = c.args in
     let loop = c.loop-s in
-    packed_length (c.loop-s-2.invariant.1.1.1.0 args.keep.now loop.invariant).is
+    packed_length (c.loop-s-2.invariant.2 args.keep.now loop.invariant).is
 
 pub returns : goal.returns
 returns c =
@@ -90,5 +77,5 @@ returns c =
     let pre = c.requires in
     let loop = c.loop-s in
     let loop2-call = c.loop-s-2 in
-    held_done pre.0 (loop2-call.invariant.1.1.1.0 args.keep.now loop.invariant)
-    (λ i q. loop2-call.invariant.1.1.1.1 c.if-left-before.true i (omega arith) q)
+    held_done pre.0 (loop2-call.invariant.2 args.keep.now loop.invariant)
+    (λ i q. loop2-call.invariant.3 c.if-left-before.true i (omega arith) q)

@@ -1,15 +1,12 @@
 -- None of the first c steps decides.
-use borrow.Author.Rules.{rules}
 use native.Mathlib.Omega.{arith}
-use mathlib.Core.Path.{◌≡◌, sym, ◌∙◌, ap, refl}
-use mathlib.Core.Bool.{false}
-use Prim.Native.Nat.{ℕ, ◌+◌, ◌-◌, ◌*◌, ◌≤◌}
+use mathlib.Core.Path.{◌≡◌, sym, ◌∙◌, ap}
+use Prim.Native.Nat.{ℕ, ◌+◌, ◌*◌}
 use Rattle.systems.specs.Tests.{any}
 use Rattle.bitmaps.specs.Bits.{bit_at}
 use Rattle.move_tables.specs.MoveLaws.{target, reach, base_few}
-use Rattle.clocks_safe.specs.Test.{some_decides, decides_at, decides}
+use Rattle.clocks_safe.specs.Test.{some_decides, decides_at}
 use Rattle.clocks_safe.proofs.TestLaws.{any_none, any_more, any_hits}
-use Rattle.clocks_safe.proofs.some_decides.Invariants.{invariant-loop-c, decreases-loop-c}
 use Rattle.clocks_safe.proofs.some_decides.Goals as goal
 
 pub overflow_mul-base : goal.overflow_mul-base
@@ -19,7 +16,7 @@ overflow_mul-base c =
     omega (arith, base_few pre.0 args.s pre.1.1.0)
 
 pub loop-c-init : goal.loop-c-init
-loop-c-init c = (omega arith, (refl, any_none _))
+loop-c-init c = any_none _
 
 pub overflow_add-t : goal.overflow_add-t
 overflow_add-t c =
@@ -72,7 +69,7 @@ loop-c-preserved c =
     let decided = decides_at args.moves.now args.inputs.now args.steps (bit_at args.keep.now) args.s
     in
     let misses = sym c.decides.ensures ∙ c.if-decides.false in
-    (omega arith, (refl, any_more (decided args.own) loop.c loop.invariant.1.1 misses))
+    any_more (decided args.own) loop.c loop.invariant misses
 
 pub returns : goal.returns
 unfolding some_decides
@@ -82,4 +79,4 @@ returns c =
     let decided = decides_at args.moves.now args.inputs.now args.steps (bit_at args.keep.now) args.s
     in
     let e : loop.c ≡ args.steps = omega arith in
-    sym (ap (λ (k : ℕ). any k (decided args.own)) (sym e) ∙ loop.invariant.1.1)
+    sym (ap (λ (k : ℕ). any k (decided args.own)) (sym e) ∙ loop.invariant)

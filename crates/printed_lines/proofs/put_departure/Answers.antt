@@ -11,14 +11,14 @@ use Rattle.printed_lines.proofs.put_departure.Goals as goal
 pub slice_bounds-put_steps-end : goal.slice_bounds-put_steps-end
 slice_bounds-put_steps-end c =
     let run = c.args.run.now in
-    let end = c.least-end in
+    let end = c.min-end in
     sym (length-take-le end.result run (omega (arith, end.ensures)))
 
 pub returns : goal.returns
 unfolding departure_lines
 returns c =
     let args = c.args in
-    let end = c.least-end in
+    let end = c.min-end in
     let steps = step_lines args.text.now args.channels in
     let head = c.put_count-head.ensures in record {
       puts = puts_then head.puts

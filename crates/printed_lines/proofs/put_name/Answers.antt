@@ -7,7 +7,7 @@ use Rattle.printed_lines.proofs.put_name.Goals as goal
 pub returns : goal.returns
 returns c =
     let args = c.args in
-    let start = c.least-start in
-    let end = c.least-end in
+    let start = c.min-start in
+    let end = c.min-end in
     puts_same (part_of args.name.place args.name.len args.text.now start.ensures end.ensures)
     c.put_bytes.ensures

@@ -2,15 +2,14 @@
 use mathlib.Core.Path.{refl}
 use Rattle.reader_numbers.specs.Numbers.{put_at}
 use Rattle.reader_numbers.proofs.Laws.{set_past}
-use borrow.Author.Rules.{rules}
 use Rattle.reader_numbers.proofs.put.Goals as goal
 
-pub returns-then-out-at : goal.returns-then-out-at
+pub returns-else-at-out : goal.returns-else-at-out
 unfolding put_at
-returns-then-out-at c =
+returns-else-at-out c =
     let args = c.args in
-    set_past args.out.now args.at args.x c.if-out-at.true
+    set_past args.out.now args.at args.x c.if-at-out.false
 
-pub returns : goal.returns
+pub returns-then-at-out : goal.returns-then-at-out
 unfolding put_at
-returns c = refl
+returns-then-at-out c = refl

@@ -2,7 +2,6 @@
 use mathlib.Core.Path.{refl}
 use mathlib.Core.List.{[], ◌∷◌}
 use Rattle.reader_numbers.proofs.Laws.{joined}
-use borrow.Author.Rules.{rules}
 use Rattle.reader_numbers.proofs.put_three.Goals as goal
 
 pub returns : goal.returns

@@ -7,7 +7,6 @@ use Rattle.reader_numbers.specs.Layout.{name_size, channel_size, location_size}
 use Rattle.reader_numbers.specs.Numbers.{rows, counts, channel_row, clock_row, location_row, edge_row, numbers}
 use Rattle.reader_numbers.proofs.Lengths.{rows_after, channel_length, clock_length, location_length}
 use Rattle.reader_numbers.proofs.Laws.{joined}
-use borrow.Author.Rules.{rules}
 use Rattle.reader_numbers.proofs.write.Goals as goal
 
 pub returns : goal.returns

@@ -1,14 +1,9 @@
 -- `reader_numbers::write_assignments` meets its contract, by the callees' contracts and the laws of numbers in a row.
-use Prim.Native.Nat.{◌-◌}
 use native.Mathlib.Omega.{arith}
-use Rattle.limits.specs.Limits.{clock_limit}
-use Rattle.reader_record.specs.Record.{assignment}
 use Rattle.reader_numbers.specs.Layout.{assignment_size}
-use Rattle.reader_numbers.specs.Numbers.{assignment_numbers, assignments_numbers}
+use Rattle.reader_numbers.specs.Numbers.{assignments_numbers}
 use Rattle.reader_numbers.proofs.Lengths.{assignment_length}
-use Rattle.reader_numbers.proofs.Laws.{Written, none_written, one_written, all_written, same_size}
-use borrow.Author.Rules.{rules}
-use Rattle.reader_numbers.proofs.write_assignments.Invariants.{invariant-loop-k, decreases-loop-k}
+use Rattle.reader_numbers.proofs.Laws.{none_written, one_written, all_written, same_size}
 use Rattle.reader_numbers.proofs.write_assignments.Goals as goal
 
 pub loop-k-preserved : goal.loop-k-preserved

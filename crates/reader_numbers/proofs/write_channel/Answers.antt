@@ -1,6 +1,5 @@
 -- `reader_numbers::write_channel` meets its contract, by the callees' contracts and the laws of numbers in a row.
-use Rattle.reader_numbers.specs.Numbers.{direction_number, channel_numbers}
-use borrow.Author.Rules.{rules}
+use Rattle.reader_numbers.specs.Numbers.{channel_numbers}
 use Rattle.reader_numbers.proofs.write_channel.Goals as goal
 
 pub returns : goal.returns

@@ -1,13 +1,8 @@
 -- `reader_numbers::write_clocks` meets its contract, by the callees' contracts and the laws of numbers in a row.
-use Prim.Native.Nat.{◌-◌}
 use native.Mathlib.Omega.{arith}
-use Rattle.limits.specs.Limits.{clock_limit}
-use Rattle.reader_numbers.specs.Layout.{clocks_place, name_size}
-use Rattle.reader_numbers.specs.Numbers.{clock_row}
+use Rattle.reader_numbers.specs.Layout.{name_size}
 use Rattle.reader_numbers.proofs.Lengths.{clock_length}
-use Rattle.reader_numbers.proofs.Laws.{Written, none_written, one_written, all_written, same_size}
-use borrow.Author.Rules.{rules}
-use Rattle.reader_numbers.proofs.write_clocks.Invariants.{invariant-loop-i, decreases-loop-i}
+use Rattle.reader_numbers.proofs.Laws.{none_written, one_written, all_written, same_size}
 use Rattle.reader_numbers.proofs.write_clocks.Goals as goal
 
 pub loop-i-preserved : goal.loop-i-preserved

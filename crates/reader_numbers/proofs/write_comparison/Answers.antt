@@ -1,6 +1,5 @@
 -- `reader_numbers::write_comparison` meets its contract, by the callees' contracts and the laws of numbers in a row.
-use Rattle.reader_numbers.specs.Numbers.{sign_number, comparison_numbers}
-use borrow.Author.Rules.{rules}
+use Rattle.reader_numbers.specs.Numbers.{comparison_numbers}
 use Rattle.reader_numbers.proofs.write_comparison.Goals as goal
 
 pub returns : goal.returns

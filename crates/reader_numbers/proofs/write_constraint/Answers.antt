@@ -1,7 +1,7 @@
 -- `reader_numbers::write_constraint` meets its contract, by the callees' contracts and the laws of numbers in a row.
 use mathlib.Core.Path.{refl, ◌∙◌, ◌≡◌}
 use mathlib.Core.List.{List, [], ◌∷◌}
-use Prim.Native.Nat.{ℕ, ◌-◌, ◌+◌}
+use Prim.Native.Nat.{ℕ}
 use native.Mathlib.Omega.{arith}
 use lib.ListN.{length}
 use Rattle.reader_record.specs.Record.{comparison}
@@ -9,9 +9,7 @@ use Rattle.limits.specs.Limits.{comparison_limit}
 use Rattle.reader_numbers.specs.Layout.{comparison_size}
 use Rattle.reader_numbers.specs.Numbers.{rows, comparison_numbers, constraint_numbers}
 use Rattle.reader_numbers.proofs.Lengths.{comparison_length}
-use Rattle.reader_numbers.proofs.Laws.{joined, Written, none_written, one_written, all_written, same_size}
-use borrow.Author.Rules.{rules}
-use Rattle.reader_numbers.proofs.write_constraint.Invariants.{invariant-loop-i, decreases-loop-i}
+use Rattle.reader_numbers.proofs.Laws.{joined, none_written, one_written, all_written, same_size}
 use Rattle.reader_numbers.proofs.write_constraint.Goals as goal
 
 pub loop-i-preserved : goal.loop-i-preserved

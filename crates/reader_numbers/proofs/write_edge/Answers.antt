@@ -5,7 +5,6 @@ use native.Mathlib.Omega.{arith}
 use Rattle.reader_numbers.specs.Numbers.{label_numbers, constraint_numbers, assignments_numbers, edge_numbers}
 use Rattle.reader_numbers.proofs.Lengths.{constraint_length}
 use Rattle.reader_numbers.proofs.Laws.{joined}
-use borrow.Author.Rules.{rules}
 use Rattle.reader_numbers.proofs.write_edge.Goals as goal
 
 pub returns : goal.returns

@@ -3,14 +3,12 @@ use mathlib.Core.Path.{refl}
 use mathlib.Core.List.{[], ◌∷◌}
 use Rattle.reader_numbers.specs.Numbers.{constraint_numbers, location_numbers}
 use Rattle.reader_numbers.proofs.Laws.{joined}
-use borrow.Author.Rules.{rules}
 use Rattle.reader_numbers.proofs.write_location.Goals as goal
 
 pub returns : goal.returns
 unfolding location_numbers
 returns c =
-    let named = c.before.before.before.before.before.before.before in
-    let args = named.args in
+    let args = c.args in
     let name = args.l.name in
     joined args.out.now args.at (name.place ∷ name.len ∷ []) (constraint_numbers args.l.invariant)
-    named.put_two.ensures c.write_constraint.ensures refl
+    c.put_two.ensures c.write_constraint.ensures refl

@@ -30,19 +30,17 @@ safe-count-requires c =
 pub first_of-first-requires : goal.first_of-first-requires
 first_of-first-requires c = ready_fits c.requires
 
-pub get-safe-requires : goal.get-safe-requires
-get-safe-requires c =
-    let start = c.before.before.before.before.before in
-    let inputs = inputs_done start.args.t _ c.inputs_of-inputs.ensures in
-    let kept = ready_safe start.requires c.inputs_of-inputs.result _ c.safe-count.result inputs c.safe-count.ensures
+pub get-requires : goal.get-requires
+get-requires c =
+    let inputs = inputs_done c.args.t _ c.inputs_of-inputs.ensures in
+    let kept = ready_safe c.requires c.inputs_of-inputs.result _ c.safe-count.result inputs c.safe-count.ensures
     in
-    ready_start start.requires _ kept.0 _ c.first_of-first.ensures
+    ready_start c.requires _ kept.0 _ c.first_of-first.ensures
 
 pub returns : goal.returns
 returns c =
-    let start = c.before.before.before.before.before in
-    let inputs = inputs_done start.args.t _ c.inputs_of-inputs.ensures in
-    let kept = ready_safe start.requires c.inputs_of-inputs.result _ c.safe-count.result inputs c.safe-count.ensures
+    let inputs = inputs_done c.args.t _ c.inputs_of-inputs.ensures in
+    let kept = ready_safe c.requires c.inputs_of-inputs.result _ c.safe-count.result inputs c.safe-count.ensures
     in
-    ready_found start.requires _ kept.0 c.first_of-first.result c.first_of-first.ensures c.safe-count.result
-    c.get-safe.result kept.1 c.get-safe.ensures
+    ready_found c.requires _ kept.0 c.first_of-first.result c.first_of-first.ensures c.safe-count.result
+    c.get.result kept.1 c.get.ensures

@@ -1,14 +1,10 @@
 -- fault_at makes its tests in the order of the definition.
-use native.Mathlib.Omega.{arith}
 use mathlib.Core.Path.{◌≡◌, sym, ◌∙◌, ap}
 use mathlib.Core.Bool.{true}
 use mathlib.Core.List.{List}
 use Prim.Native.Nat.{ℕ}
-use lib.ListN.{length}
 use Rattle.bitmaps.specs.Bits.{bit_at}
-use Rattle.bitmaps.specs.Packed.{bytes_for}
 use Rattle.tables_rows.specs.Raster.{set_at}
-use Rattle.tables_rows.specs.RasterLaws.{part_length}
 use Rattle.tables_check.specs.Fault.{step_fault}
 use Rattle.tables_check.specs.Scan.{fault_at}
 use Rattle.tables_check.proofs.Laws.{fault_unset, fault_unsafe, fault_untrue, fault_rules, step_broken, step_fine}
@@ -25,13 +21,6 @@ is_related c =
 
 is_safe : (c : Else-not-get-2) → bit_at c.args.keep.now c.args.s ≡ true
 is_safe c = sym c.get-2.ensures ∙ c.if-not-get-2.false
-
-pub get-requires : goal.get-requires
-get-requires c =
-    let a = c.args in
-    let (given, (below, (inside, (room, row)))) = c.requires in
-    let long = part_length a.sides.left_states (bytes_for a.sides.right_states) a.raster.now a.s room below in
-    omega (arith, long, ap length row, inside)
 
 pub returns-then-not-get : goal.returns-then-not-get
 returns-then-not-get c =
@@ -52,11 +41,6 @@ returns-then-not-get-3 c =
     a.t (is_related (goal.at.returns-then-not-get-3 c).Else-not-get)
     (is_safe (goal.at.returns-then-not-get-3 c).Else-not-get-2)
     (sym c.get-3.ensures ∙ c.if-not-get-3.true))
-
-pub first_bad-c-requires : goal.first_bad-c-requires
-first_bad-c-requires c =
-    let (given, (below, (inside, (room, row)))) = c.requires in
-    (given.left, (given.right, (below, (inside, room))))
 
 -- behind all tests the rules decide
 by_rules : (c : After-first_bad-c) → set_at c.args.sides.right_states c.args.raster.now c.args.s c.args.t ≡ true

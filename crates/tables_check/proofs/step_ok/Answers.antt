@@ -14,12 +14,6 @@ returns-then-v-eq-NO_TARGET c =
     let if1 = c.if-u-eq-NO_TARGET in
     rw (decode_some _ if1.false, decode_none _ c.if-v-eq-NO_TARGET.true)
 
-pub is_set-requires : goal.is_set-requires
-is_set-requires c =
-    let pre = c.requires in
-    let if1 = c.if-u-eq-NO_TARGET in
-    (pre.0, (pre.1.0, (pre.1.1.0 if1.false, (pre.1.1.1.0 c.if-v-eq-NO_TARGET.false, pre.1.1.1.1))))
-
 pub returns : goal.returns
 unfolding ok_of stays lands
 returns c =

@@ -1,13 +1,7 @@
 -- digit_count counts the digits: k and the digits of the rest are one more than those of n.
-use borrow.Author.Rules.{rules}
 use native.Mathlib.Omega.{arith}
-use mathlib.Core.Path.{◌≡◌}
-use Prim.Native.Nat.{◌+◌, ◌≤◌}
-use lib.ListN.{length}
-use Rattle.byte_slices.specs.Decimal.{decimal}
 use Rattle.byte_slices.specs.DecimalLaws.{decimal_length, length_one}
 use Rattle.tables_header.proofs.Laws.{decimal_few}
-use Rattle.tables_header.proofs.digit_count.Invariants.{invariant-loop-rest, decreases-loop-rest}
 use Rattle.tables_header.proofs.digit_count.Goals as goal
 
 pub loop-rest-init : goal.loop-rest-init

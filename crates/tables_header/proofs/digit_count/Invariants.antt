@@ -1,12 +1,8 @@
 -- digit_count counts the digits: k and the digits of the rest are one more than those of n.
-use borrow.Author.Rules.{rules}
-use native.Mathlib.Omega.{arith}
 use mathlib.Core.Path.{◌≡◌}
 use Prim.Native.Nat.{◌+◌, ◌≤◌}
 use lib.ListN.{length}
 use Rattle.byte_slices.specs.Decimal.{decimal}
-use Rattle.byte_slices.specs.DecimalLaws.{decimal_length, length_one}
-use Rattle.tables_header.proofs.Laws.{decimal_few}
 use Rattle.tables_header.proofs.digit_count.Given as goal
 
 abbrev pub invariant-loop-rest : goal.invariant-loop-rest

@@ -1,5 +1,4 @@
 -- header_length adds the digits of both numbers to the bytes of the first line, the space and the end of the line.
-use borrow.Author.Rules.{rules}
 use native.Mathlib.Omega.{arith}
 use Rattle.tables_header.proofs.Laws.{decimal_few, header_size}
 use Rattle.tables_header.proofs.header_length.Goals as goal

@@ -1,5 +1,4 @@
 -- An aligned source is met byte by byte, another shifted.
-use borrow.Author.Rules.{rules}
 use native.Mathlib.Omega.{arith}
 use mathlib.Core.Path.{◌≡◌}
 use Prim.Native.Nat.{◌*◌, ◌/◌}

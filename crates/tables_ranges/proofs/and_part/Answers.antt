@@ -1,5 +1,4 @@
 -- The source's bits are shifted to the bits of the row's byte that they meet.
-use borrow.Author.Rules.{rules}
 use native.Mathlib.Omega.{arith}
 use mathlib.Core.Path.{◌≡◌}
 use Rattle.tables_ranges.specs.CutLaws.{cut_none, cut_same}

@@ -1,5 +1,4 @@
 -- and_range cuts up to the first whole byte, the whole bytes, and what is left.
-use borrow.Author.Rules.{rules}
 use native.Mathlib.Omega.{arith}
 use Rattle.tables_ranges.proofs.Laws.{three_parts}
 use Rattle.tables_ranges.proofs.and_range.Goals as goal

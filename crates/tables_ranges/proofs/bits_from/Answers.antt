@@ -1,4 +1,3 @@
-use borrow.Author.Rules.{rules}
 use native.Mathlib.Omega.{arith}
 use lib.Pow.{shr_le}
 use Rattle.tables_ranges.proofs.Laws.{full_from}

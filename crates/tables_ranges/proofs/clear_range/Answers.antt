@@ -1,5 +1,4 @@
 -- clear_range clears up to the first whole byte, the whole bytes, and what is left.
-use borrow.Author.Rules.{rules}
 use native.Mathlib.Omega.{arith}
 use Rattle.tables_ranges.specs.CutLaws.{cut_join}
 use Rattle.tables_ranges.proofs.clear_range.Goals as goal

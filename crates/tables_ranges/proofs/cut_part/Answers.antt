@@ -1,5 +1,4 @@
 -- The mask leaves the bits beside the range alone.
-use borrow.Author.Rules.{rules}
 use native.Mathlib.Omega.{arith}
 use Rattle.tables_ranges.proofs.Laws.{cut_masked}
 use Rattle.tables_ranges.proofs.cut_part.Goals as goal

@@ -1,5 +1,4 @@
 -- The byte behind the last counts as 0, as in the definition of a bit.
-use borrow.Author.Rules.{rules}
 use native.Mathlib.Omega.{arith}
 use mathlib.Core.Path.{subst}
 use Prim.Native.Nat.{ℕ, ◌/◌, ◌%◌}

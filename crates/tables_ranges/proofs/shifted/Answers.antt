@@ -1,4 +1,3 @@
-use borrow.Author.Rules.{rules}
 use native.Mathlib.Omega.{arith}
 use Rattle.tables_ranges.proofs.Laws.{two_bytes}
 use Rattle.tables_ranges.proofs.shifted.Goals as goal

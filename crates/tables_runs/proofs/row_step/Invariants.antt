@@ -1,10 +1,7 @@
 -- row_step goes from run to run: the row is cut from `from` up to t.
-use Prim.Native.Nat.{◌-◌, ◌≤◌}
-use native.Mathlib.Omega.{arith}
+use Rattle.std.specs.Prelude.{◌-◌, ◌≤◌}
 use Rattle.tables_ranges.specs.Cut.{Cut}
-use Rattle.tables_ranges.specs.CutLaws.{cut_none, cut_join}
 use Rattle.tables_runs.specs.Runs.{landing}
-use Rattle.tables_runs.specs.RunsLaws.{cut_within}
 use Rattle.tables_runs.proofs.row_step.Given as goal
 
 abbrev pub invariant-loop-t : goal.invariant-loop-t

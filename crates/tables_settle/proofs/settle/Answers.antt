@@ -1,13 +1,11 @@
 -- settle ends: each round but the last is later than the one before.
 use mathlib.Core.Path.{sym}
 use mathlib.Core.Logic.{◌≢◌}
-use Prim.Native.Nat.{◌+◌, ◌-◌, ◌*◌, ◌<◌}
+use Prim.Native.Nat.{◌<◌}
 use native.Mathlib.Omega.{arith}
 use lib.Arith.{lt_of_le-ne}
-use Rattle.tables_settle.specs.State.{Moved}
 use Rattle.tables_settle.proofs.DoneLaws.{settled_done}
-use Rattle.tables_settle.proofs.TurnLaws.{Lengths, lengths_none, lengths_more, rooms_kept, moved_none, moved_both}
-use Rattle.tables_settle.proofs.settle.Invariants.{invariant-loop-late, decreases-loop-late}
+use Rattle.tables_settle.proofs.TurnLaws.{lengths_none, lengths_more, rooms_kept, moved_none, moved_both}
 use Rattle.tables_settle.proofs.settle.Goals as goal
 
 pub loop-late-init : goal.loop-late-init
@@ -59,30 +57,6 @@ loop-late-preserved c = let loop = c.loop-late in
       moved_both (moved_both loop.invariant.1 hurry.ensures) sweep.ensures.moved,
     )
 
-pub shape_of-raster : goal.shape_of-raster
-shape_of-raster c = let loop = c.loop-late in
-    let hurry = c.hurry-early in
-    let sweep = c.sweep-late in
-    omega (arith, loop.invariant.0.raster, hurry.auto.raster, sweep.auto.raster)
-
-pub shape_of-seen : goal.shape_of-seen
-shape_of-seen c = let loop = c.loop-late in
-    let hurry = c.hurry-early in
-    let sweep = c.sweep-late in
-    omega (arith, loop.invariant.0.looked, hurry.auto.seen, sweep.auto.seen)
-
-pub shape_of-stamps : goal.shape_of-stamps
-shape_of-stamps c = let loop = c.loop-late in
-    let hurry = c.hurry-early in
-    let sweep = c.sweep-late in
-    omega (arith, loop.invariant.0.changed, hurry.auto.stamps, sweep.auto.stamps)
-
-pub shape_of-row : goal.shape_of-row
-shape_of-row c = let loop = c.loop-late in
-    let hurry = c.hurry-early in
-    let sweep = c.sweep-late in
-    omega (arith, loop.invariant.0.row_same, hurry.auto.row, sweep.auto.row)
-
 pub returns : goal.returns
 returns c = let pre = c.requires in
     let loop = c.loop-late in
@@ -90,8 +64,4 @@ returns c = let pre = c.requires in
     let sweep = c.sweep-late in
     let moved = moved_both (moved_both loop.invariant.1 hurry.ensures) sweep.ensures.moved in
     settled_done pre.0.tables.left pre.0.tables.right pre.0.rooms.wide pre.0.rooms.raster
-    (λ i. omega (
-      arith,
-      c.slice_known-in-loop-late-5-1.given
-          i,
-    )) moved.shrunk moved.state (sweep.ensures.still c.if-late-early.true)
+    (λ i. omega (arith, c.type_inv.raster i)) moved.shrunk moved.state (sweep.ensures.still c.if-late-early.true)

@@ -1,12 +1,7 @@
 -- settle ends: each round but the last is later than the one before.
-use mathlib.Core.Path.{sym}
-use mathlib.Core.Logic.{◌≢◌}
-use Prim.Native.Nat.{◌+◌, ◌-◌, ◌*◌, ◌<◌}
-use native.Mathlib.Omega.{arith}
-use lib.Arith.{lt_of_le-ne}
+use Prim.Native.Nat.{◌+◌, ◌-◌, ◌*◌}
 use Rattle.tables_settle.specs.State.{Moved}
-use Rattle.tables_settle.proofs.DoneLaws.{settled_done}
-use Rattle.tables_settle.proofs.TurnLaws.{Lengths, lengths_none, lengths_more, rooms_kept, moved_none, moved_both}
+use Rattle.tables_settle.proofs.TurnLaws.{Lengths}
 use Rattle.tables_settle.proofs.settle.Given as goal
 
 abbrev pub invariant-loop-late : goal.invariant-loop-late

@@ -1,9 +1,5 @@
 -- run_count goes run by run; each has a state.
-use borrow.Author.Rules.{rules}
-use native.Mathlib.Omega.{arith}
-use Prim.Native.Nat.{◌-◌, ◌≤◌, ◌<◌}
-use Rattle.tables_shifts.proofs.Classes.{run_base}
-use lib.Arith.{digits_lt}
+use Rattle.std.specs.Prelude.{◌-◌, ◌≤◌}
 use Rattle.tables_shifts.proofs.run_count.Given as goal
 
 abbrev pub invariant-loop-t : goal.invariant-loop-t

@@ -1,29 +1,12 @@
-use borrow.Author.Rules.{rules}
 use Rattle.two_operations.proofs.Paths.{loaded_ready, loaded_bits, check_refused_done, check_done}
 use Rattle.two_operations.proofs.check.Goals as goal
 
+pub returns-in_err-t : goal.returns-in_err-t
+returns-in_err-t c = check_refused_done _ _ _ _ _ _ _ _ c.in_err-t.ensures _ _ c.from_residual.result c.from_residual.ensures.1
+
 pub check-requires : goal.check-requires
 check-requires c =
-    let args = c.args in
-    let load = c.load_two-t in
-    let accepted = c.in-Accepted.is in (
-      loaded_ready args.period args.left.now args.right.now _ _ _ _ load.result
-          load.ensures accepted,
-      loaded_bits args.period args.left.now args.right.now _ _ _ _ load.result
-          load.ensures accepted,
-    )
+    (loaded_ready _ _ _ _ _ _ _ _ c.in_ok-t.ensures, loaded_bits _ _ _ _ _ _ _ _ c.in_ok-t.ensures)
 
-pub returns-in-Refused : goal.returns-in-Refused
-returns-in-Refused c =
-    let args = c.args in
-    let load = c.load_two-t in
-    check_refused_done args.period args.left.now args.right.now _ _ _ _ load.result load.ensures
-    args.keep.now args.table.now _ c.in-Refused.is
-
-pub returns-in-Accepted : goal.returns-in-Accepted
-returns-in-Accepted c =
-    let args = c.args in
-    let load = c.load_two-t in
-    let accepted = c.in-Accepted.is in
-    check_done args.period args.left.now args.right.now _ _ _ _ load.result load.ensures
-    args.keep.now args.table.now accepted _ c.check.ensures
+pub returns : goal.returns
+returns c = check_done _ _ _ _ _ _ _ _ c.in_ok-t.ensures _ _ _ c.check.ensures

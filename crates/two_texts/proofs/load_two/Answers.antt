@@ -1,55 +1,79 @@
 -- Codes 24 and 1 to 12 in their order: one law of Paths.antt a path.
-use borrow.Author.Rules.{rules}
-use mathlib.Core.Path.{◌≡◌, sym, ap, ◌∙◌}
-use mathlib.Core.Bool.{Bool, true}
-use Prim.Native.Nat.{ℕ}
-use Rattle.limits.specs.Limits.{tick_allowed}
-use Rattle.two_texts.specs.Answers.{refused}
-use Rattle.two_texts.proofs.Paths.{loaded_reading, tick_refused, left_too_long, right_too_long, left_refused, both_read}
+use Rattle.std.proofs.Common.{refl, sym, ap, ◌∙◌}
+use Rattle.refusals.specs.declared.File.TheVariants.{Left}
+use Rattle.refusals.specs.Answers.{answer_of}
+use Rattle.two_texts.proofs.Paths.{kept, passed, unread_refused, loaded_refused, loaded_reading, tick_refused, left_too_long, right_too_long, left_refused, both_read}
+use Rattle.std.specs.Prelude.{◌≡◌, true, ◌≤◌, length, Ok}
+use Rattle.limits.specs.Limits.{tick_allowed, largest_text}
 use Rattle.two_texts.proofs.load_two.Goals as goal
+use Rattle.two_texts.proofs.load_two.Goals.{After-map_err, After-judge}
+
+-- the tick length is allowed, and both texts are within the limit
+fits : (c : After-map_err) → (tick_allowed c.args.period ≡ true) × (length c.args.left.now ≤ largest_text)
+    × (length c.args.right.now ≤ largest_text)
+fits c = (
+  sym c.is_tick_length.ensures ∙ c.if-not-is_tick_length.false,
+  c.if-left-gt-LARGEST_TEXT.false,
+  c.if-right-gt-LARGEST_TEXT.false,
+)
+
+-- the left is read
+read : (c : After-judge) → c.args.both.left ≡ Ok c.in_ok-ours.ours
+read c = kept Left c.args.both.left c.map_err.result c.map_err.ensures.cases c.in_ok-ours.ours c.in_ok-ours.was
 
 pub returns-then-not-is_tick_length : goal.returns-then-not-is_tick_length
 returns-then-not-is_tick_length c =
     tick_refused c.args.period c.args.left.now c.args.right.now _ _ _ _ _
-    (sym c.is_tick_length.ensures ∙ c.if-not-is_tick_length.true)
-    (c.refused.ensures ∙ ap refused c.tick_out_of_range-f.ensures)
+    (sym c.is_tick_length.ensures ∙ c.if-not-is_tick_length.true) refl
 
 pub returns-then-left-gt-LARGEST_TEXT : goal.returns-then-left-gt-LARGEST_TEXT
 returns-then-left-gt-LARGEST_TEXT c =
     left_too_long c.args.period c.args.left.now c.args.right.now
-    (sym c.is_tick_length.ensures ∙ c.if-not-is_tick_length.false) _ _ _ _ _ c.if-left-gt-LARGEST_TEXT.true
-    (c.refused-then-left-gt-LARGEST_TEXT.ensures ∙ ap refused c.too_long-f.ensures)
+    (sym c.is_tick_length.ensures ∙ c.if-not-is_tick_length.false) _ _ _ _ _ c.if-left-gt-LARGEST_TEXT.true refl
 
 pub returns-then-right-gt-LARGEST_TEXT : goal.returns-then-right-gt-LARGEST_TEXT
 returns-then-right-gt-LARGEST_TEXT c =
     right_too_long c.args.period c.args.left.now c.args.right.now
     (sym c.is_tick_length.ensures ∙ c.if-not-is_tick_length.false) c.if-left-gt-LARGEST_TEXT.false _ _ _ _ _
-    c.if-right-gt-LARGEST_TEXT.true (c.refused-then-right-gt-LARGEST_TEXT.ensures ∙ ap refused c.too_long-f-then-right-gt-LARGEST_TEXT.ensures)
+    c.if-right-gt-LARGEST_TEXT.true refl
 
-pub judge-l-requires : goal.judge-l-requires
-judge-l-requires c =
-    (c.requires.0.left_text.counted, c.requires.1.left)
+pub returns-in_err-ours : goal.returns-in_err-ours
+returns-in_err-ours c =
+    let (allowed, l, r) = fits (goal.at.returns-in_err-ours c).After-map_err in
+    let (f, is, told) = passed Left c.args.both.left c.map_err.result c.map_err.ensures.cases c.in_err-ours.field-0.0
+    c.in_err-ours.was c.from_residual.result c.from_residual.ensures.1 in
+    left_refused _ c.args.left.now c.args.right.now allowed l r _ _ _ _ _ _
+    (unread_refused _ _ c.args.both.left c.requires.0.left_text Left f is) told
+
+pub returns-in_err-map_err : goal.returns-in_err-map_err
+returns-in_err-map_err c =
+    let (allowed, l, r) = fits (goal.at.returns-in_err-map_err c).After-map_err in
+    let read_left = read (goal.at.returns-in_err-map_err c).After-judge in
+    let (f, is, told) = passed Left c.judge.result c.map_err-2.result c.map_err-2.ensures.cases
+    c.in_err-map_err.field-0.0 c.in_err-map_err.was c.from_residual-in_err-map_err.result
+    c.from_residual-in_err-map_err.ensures.1 in
+    left_refused _ c.args.left.now c.args.right.now allowed l r _ _ _ _ _ _
+    (loaded_refused _ _ c.in_ok-ours.ours (rw read_left at c.requires.0.left_text) _ _ c.judge.result _ _ c.judge.ensures
+    Left f is) told
 
 pub load_right-requires : goal.load_right-requires
 load_right-requires c =
-    let judges = c.judge-l in
-    let pre = c.requires in (
-      loaded_reading _ _ _ pre.0.left_text _ _ judges.result _ _ judges.ensures c.in-Accepted.is,
+    let pre = c.requires in
+    let read_left = read (goal.at.load_right-requires c).After-judge in
+    let judged = kept Left c.judge.result c.map_err-2.result c.map_err-2.ensures.cases c.in_ok-map_err.field-0
+    c.in_ok-map_err.was in (
+      loaded_reading _ _ c.in_ok-ours.ours (rw read_left at pre.0.left_text) _ _ c.judge.result _ _ c.judge.ensures
+          (ap answer_of judged),
       pre.0.right_text,
       pre.1.right,
     )
 
-pub returns-in-Refused : goal.returns-in-Refused
-returns-in-Refused c =
-    let judges = c.judge-l in
-    left_refused _ c.args.left.now c.args.right.now (sym c.is_tick_length.ensures ∙ c.if-not-is_tick_length.false)
-    c.if-left-gt-LARGEST_TEXT.false c.if-right-gt-LARGEST_TEXT.false _ c.requires.0.left_text _ _ judges.result _ _
-    judges.ensures _ _ _ _ _ c.in-Refused.is c.in_file-g.ensures c.refused-in-Refused.ensures
-
-pub returns-in-Accepted : goal.returns-in-Accepted
-returns-in-Accepted c =
-    let judges = c.judge-l in
-    let fits = c.if-left-gt-LARGEST_TEXT.false in
-    both_read _ c.args.left.now c.args.right.now (sym c.is_tick_length.ensures ∙ c.if-not-is_tick_length.false)
-    fits c.if-right-gt-LARGEST_TEXT.false _ c.requires.0.left_text _ _ judges.result _ _
-    judges.ensures _ _ _ c.in-Accepted.is c.requires.1.left c.load_right.ensures
+pub returns : goal.returns
+returns c =
+    let pre = c.requires in
+    let (allowed, l, r) = fits (goal.at.returns c).After-map_err in
+    let read_left = read (goal.at.returns c).After-judge in
+    let judged = kept Left c.judge.result c.map_err-2.result c.map_err-2.ensures.cases c.in_ok-map_err.field-0
+    c.in_ok-map_err.was in
+    both_read _ c.args.left.now c.args.right.now allowed l r c.in_ok-ours.ours (rw read_left at pre.0.left_text) _ _
+    c.judge.result _ _ c.judge.ensures _ _ _ (ap answer_of judged) (rw read_left at pre.1.left) c.load_right.ensures

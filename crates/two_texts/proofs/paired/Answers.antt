@@ -1,11 +1,15 @@
 -- Code 12 or the right table by the left steps: one law of Paths.antt a path.
-use borrow.Author.Rules.{rules}
+use Rattle.std.specs.Prelude.{Ok, Err}
+use Rattle.std.proofs.Common.{ap, ◌∙◌}
+use Rattle.std.proofs.lemmas.Result.{err_from_is_err_and}
 use native.Mathlib.Omega.{arith}
+use Rattle.refusals.specs.declared.Refusal.{Refusal}
+use Rattle.two_texts.specs.declared.TwoTexts.{TwoTexts}
 use Rattle.two_texts.proofs.Paths.{reading_formed, reading_sized, paired_refused, paired_renumbers, paired_accepted}
 use Rattle.two_texts.proofs.paired.Goals as goal
 
-pub pair_channels-pairing-requires : goal.pair_channels-pairing-requires
-pair_channels-pairing-requires c =
+pub pair_channels-requires : goal.pair_channels-requires
+pair_channels-requires c =
     let pre = c.requires in
     (reading_formed _ _ _ pre.0, reading_formed _ _ _ pre.1)
 
@@ -16,25 +20,23 @@ overflow_add-width c =
 pub renumber-requires : goal.renumber-requires
 renumber-requires c =
     let args = c.args in
-    paired_renumbers args.period args.left.now args.ours args.right.now args.theirs
-    c.requires.0 c.requires.1 c.pair_channels-pairing.result c.pair_channels-pairing.ensures
-    c.in-Equal.is args.moves.now c.requires.2
+    paired_renumbers args.period args.left.now args.ours args.right.now args.theirs c.requires.0 c.requires.1
+    _ c.in_ok-map.ensures args.moves.now c.requires.2
 
 pub accepted-requires : goal.accepted-requires
 accepted-requires c =
     let pre = c.requires in
     (reading_sized _ _ _ pre.0, reading_sized _ _ _ pre.1)
 
-pub returns-in-Unmatched : goal.returns-in-Unmatched
-returns-in-Unmatched c =
+pub returns-in_err-map : goal.returns-in_err-map
+returns-in_err-map c =
     let args = c.args in
-    paired_refused args.period args.left.now args.ours args.right.now args.theirs
-    c.requires.0 c.requires.1 c.pair_channels-pairing.result c.pair_channels-pairing.ensures _ _ _
-    c.in-Unmatched.is c.refused.ensures
+    let (why, told, same) = err_from_is_err_and c.from_residual.result c.from_residual.ensures.1 in
+    paired_refused args.period args.left.now args.ours args.right.now args.theirs c.requires.0 c.requires.1
+    _ _ _ c.in_err-map.ensures (told ∙ ap (λ (f : Refusal). Err f) same)
 
-pub returns-in-Equal : goal.returns-in-Equal
-returns-in-Equal c =
+pub returns : goal.returns
+returns c =
     let args = c.args in
-    paired_accepted args.period args.left.now args.ours args.right.now args.theirs
-    c.requires.0 c.requires.1 c.pair_channels-pairing.result c.pair_channels-pairing.ensures
-    c.in-Equal.is _ _ _ c.renumber.ensures c.accepted.ensures
+    paired_accepted args.period args.left.now args.ours args.right.now args.theirs c.requires.0 c.requires.1
+    _ c.in_ok-map.ensures _ _ _ c.renumber.ensures (ap (λ (t : TwoTexts). Ok t) c.accepted.ensures)

@@ -1,16 +1,12 @@
 -- The first i channels are put.
-use borrow.Author.Rules.{rules}
 use mathlib.Core.List.{[], ◌∷◌}
-use Prim.Native.Nat.{◌-◌, ◌≤◌}
 use native.Mathlib.Omega.{arith}
 use Rattle.reader_tokens.specs.Scan.{bytes}
 use Rattle.written.specs.Written.{channel_list}
-use Rattle.writer_tokens.specs.Tokens.{LeftToPut}
 use Rattle.writer_tokens.specs.TokenLaws.{tokens_then, left_all}
 use Rattle.written_names.specs.Inside.{names_in}
-use Rattle.writer_lists.specs.Lists.{list_left, channel_item}
+use Rattle.writer_lists.specs.Lists.{channel_item}
 use Rattle.writer_lists.specs.ListLaws.{list_none, list_some, list_next}
-use Rattle.writer_lists.proofs.put_channels.Invariants.{invariant-loop-i, decreases-loop-i}
 use Rattle.writer_lists.proofs.put_channels.Goals as goal
 
 pub returns-then-count-eq0 : goal.returns-then-count-eq0
@@ -28,7 +24,7 @@ put_channel-place-requires c = (
 )
 
 pub loop-i-init : goal.loop-i-init
-loop-i-init c = (omega arith, left_all)
+loop-i-init c = left_all
 
 pub put_channel-place-requires-in-loop-i : goal.put_channel-place-requires-in-loop-i
 put_channel-place-requires-in-loop-i c = (
@@ -37,22 +33,13 @@ put_channel-place-requires-in-loop-i c = (
   c.requires.1,
 )
 
-pub overflow_add-i : goal.overflow_add-i
-overflow_add-i c =
-    search (
-      rules,
-      c.requires.0,
-    )
-
 pub loop-i-preserved : goal.loop-i-preserved
 loop-i-preserved c =
     let args = c.args in
-    let loop = c.loop-i in (
-      omega arith,
-      list_next (channel_item (names_in args.s.now args.channels args.count)) args.count loop.i
-          (omega arith) loop.invariant.1 c.put_token-comma.ensures
-          c.put_channel-place-in-loop-i.ensures,
-    )
+    let loop = c.loop-i in
+    list_next (channel_item (names_in args.s.now args.channels args.count)) args.count loop.i
+    (omega arith) loop.invariant c.put_token-comma.ensures
+    c.put_channel-place-in-loop-i.ensures
 
 pub returns : goal.returns
 unfolding channel_list
@@ -62,4 +49,4 @@ returns c =
     list_some (bytes "broadcast" ∷ bytes "chan" ∷ []) (channel_item
     (names_in args.s.now args.channels args.count)) args.count loop.i (omega arith) (omega arith)
     (tokens_then c.put_token-word.ensures
-    c.put_token-start.ensures) c.put_channel-place.ensures loop.invariant.1 c.put_token.ensures
+    c.put_token-start.ensures) c.put_channel-place.ensures loop.invariant c.put_token.ensures

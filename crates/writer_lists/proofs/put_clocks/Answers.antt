@@ -1,15 +1,11 @@
 -- The first i clocks are put.
-use borrow.Author.Rules.{rules}
 use mathlib.Core.List.{[], ◌∷◌}
-use Prim.Native.Nat.{◌-◌, ◌≤◌}
 use native.Mathlib.Omega.{arith}
 use Rattle.reader_tokens.specs.Scan.{bytes}
 use Rattle.written.specs.Written.{called, clock_list}
-use Rattle.writer_tokens.specs.Tokens.{LeftToPut}
 use Rattle.writer_tokens.specs.TokenLaws.{left_all}
-use Rattle.writer_lists.specs.Lists.{list_left, clock_item}
+use Rattle.writer_lists.specs.Lists.{clock_item}
 use Rattle.writer_lists.specs.ListLaws.{list_none, list_some, list_next}
-use Rattle.writer_lists.proofs.put_clocks.Invariants.{invariant-loop-i, decreases-loop-i}
 use Rattle.writer_lists.proofs.put_clocks.Goals as goal
 
 pub returns-then-count-eq0 : goal.returns-then-count-eq0
@@ -19,18 +15,16 @@ returns-then-count-eq0 c =
     list_none (bytes "clock" ∷ []) (clock_item args.u) args.count (omega arith)
 
 pub loop-i-init : goal.loop-i-init
-loop-i-init c = (omega arith, left_all)
+loop-i-init c = left_all
 
 pub loop-i-preserved : goal.loop-i-preserved
 unfolding called
 loop-i-preserved c =
     let args = c.args in
-    let loop = c.loop-i in (
-      omega arith,
-      list_next (clock_item args.u) args.count loop.i (omega arith) loop.invariant.1
-          c.put_token-comma.ensures
-          c.put_named-place-in-loop-i.ensures,
-    )
+    let loop = c.loop-i in
+    list_next (clock_item args.u) args.count loop.i (omega arith) loop.invariant
+    c.put_token-comma.ensures
+    c.put_named-place-in-loop-i.ensures
 
 pub returns : goal.returns
 unfolding clock_list called
@@ -38,4 +32,4 @@ returns c =
     let args = c.args in
     let loop = c.loop-i in
     list_some (bytes "clock" ∷ []) (clock_item args.u) args.count loop.i (omega arith) (omega arith)
-    c.put_token-start.ensures c.put_named-place.ensures loop.invariant.1 c.put_token.ensures
+    c.put_token-start.ensures c.put_named-place.ensures loop.invariant c.put_token.ensures

@@ -1,20 +1,9 @@
 -- The first i clocks are put.
-use borrow.Author.Rules.{rules}
-use mathlib.Core.List.{[], ◌∷◌}
-use Prim.Native.Nat.{◌-◌, ◌≤◌}
-use native.Mathlib.Omega.{arith}
-use Rattle.reader_tokens.specs.Scan.{bytes}
-use Rattle.written.specs.Written.{called, clock_list}
 use Rattle.writer_tokens.specs.Tokens.{LeftToPut}
-use Rattle.writer_tokens.specs.TokenLaws.{left_all}
 use Rattle.writer_lists.specs.Lists.{list_left, clock_item}
-use Rattle.writer_lists.specs.ListLaws.{list_none, list_some, list_next}
 use Rattle.writer_lists.proofs.put_clocks.Given as goal
 
 abbrev pub invariant-loop-i : goal.invariant-loop-i
 invariant-loop-i l =
-    (l.i ≤ l.count) × LeftToPut l.initial.out l.initial.place (list_left (clock_item l.u) l.count 1) l.out l.place
+    LeftToPut l.initial.out l.initial.place (list_left (clock_item l.u) l.count 1) l.out l.place
     (list_left (clock_item l.u) l.count l.i)
-
-abbrev pub decreases-loop-i : goal.decreases-loop-i
-decreases-loop-i l = l.count - l.i

@@ -1,19 +1,13 @@
 -- The first i edges are put.
-use borrow.Author.Rules.{rules}
-use mathlib.Core.List.{List, [], ◌∷◌}
-use Prim.Native.Nat.{ℕ, ◌-◌, ◌≤◌, ◌<◌}
+use mathlib.Core.List.{[], ◌∷◌}
 use native.Mathlib.Omega.{arith}
-use Rattle.reader_record.specs.declared.Text.{Text}
-use Rattle.reader_record.specs.Record.{edge}
 use Rattle.reader_tokens.specs.Scan.{bytes}
 use Rattle.written.specs.Written.{edge_list}
-use Rattle.writer_tokens.specs.Tokens.{LeftToPut}
 use Rattle.writer_tokens.specs.TokenLaws.{left_all}
-use Rattle.writer_parts.specs.Parts.{EdgeWithin}
 use Rattle.written_names.specs.Inside.{names_in}
-use Rattle.writer_lists.specs.Lists.{TextWithin, list_left, edge_item}
+use Rattle.writer_lists.specs.Lists.{edge_item}
 use Rattle.writer_lists.specs.ListLaws.{list_none, list_some, list_next}
-use Rattle.writer_lists.proofs.put_edges.Invariants.{edge_within, invariant-loop-i, decreases-loop-i}
+use Rattle.writer_lists.proofs.put_edges.Invariants.{edge_within}
 use Rattle.writer_lists.proofs.put_edges.Goals as goal
 
 pub returns-then-count-eq0 : goal.returns-then-count-eq0
@@ -37,17 +31,15 @@ pub put_edge-place-requires-in-loop-i : goal.put_edge-place-requires-in-loop-i
 put_edge-place-requires-in-loop-i c = edge_within c.requires _ c.loop-i-test.true
 
 pub loop-i-init : goal.loop-i-init
-loop-i-init c = (omega arith, left_all)
+loop-i-init c = left_all
 
 pub loop-i-preserved : goal.loop-i-preserved
 loop-i-preserved c =
     let args = c.args in
     let t = args.t in
-    let loop = c.loop-i in (
-      omega arith,
-      list_next (edge_item (names_in args.s.now t.channels t.channel_count) args.u t) t.edge_count
-          loop.i (omega arith) loop.invariant.1 c.put_token-comma.ensures c.put_edge-place-in-loop-i.ensures,
-    )
+    let loop = c.loop-i in
+    list_next (edge_item (names_in args.s.now t.channels t.channel_count) args.u t) t.edge_count
+    loop.i (omega arith) loop.invariant c.put_token-comma.ensures c.put_edge-place-in-loop-i.ensures
 
 pub returns : goal.returns
 unfolding edge_list
@@ -57,4 +49,4 @@ returns c =
     let loop = c.loop-i in
     list_some (bytes "trans" ∷ []) (edge_item (names_in args.s.now t.channels t.channel_count)
     args.u t) t.edge_count loop.i (omega arith) (omega arith) c.put_token-start.ensures
-    c.put_edge-place.ensures loop.invariant.1 c.put_token.ensures
+    c.put_edge-place.ensures loop.invariant c.put_token.ensures

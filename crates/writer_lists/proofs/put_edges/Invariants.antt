@@ -1,18 +1,12 @@
 -- The first i edges are put.
-use borrow.Author.Rules.{rules}
-use mathlib.Core.List.{List, [], ◌∷◌}
-use Prim.Native.Nat.{ℕ, ◌-◌, ◌≤◌, ◌<◌}
-use native.Mathlib.Omega.{arith}
+use mathlib.Core.List.{List}
+use Prim.Native.Nat.{ℕ, ◌<◌}
 use Rattle.reader_record.specs.declared.Text.{Text}
 use Rattle.reader_record.specs.Record.{edge}
-use Rattle.reader_tokens.specs.Scan.{bytes}
-use Rattle.written.specs.Written.{edge_list}
 use Rattle.writer_tokens.specs.Tokens.{LeftToPut}
-use Rattle.writer_tokens.specs.TokenLaws.{left_all}
 use Rattle.writer_parts.specs.Parts.{EdgeWithin}
 use Rattle.written_names.specs.Inside.{names_in}
 use Rattle.writer_lists.specs.Lists.{TextWithin, list_left, edge_item}
-use Rattle.writer_lists.specs.ListLaws.{list_none, list_some, list_next}
 use Rattle.writer_lists.proofs.put_edges.Given as goal
 
 -- what a text within the limits says of its edges
@@ -29,7 +23,4 @@ edge_within text i h = record {
 abbrev pub invariant-loop-i : goal.invariant-loop-i
 invariant-loop-i l =
     let item = edge_item (names_in l.s l.t.channels l.t.channel_count) l.u l.t in
-    (l.i ≤ l.count) × LeftToPut l.initial.out l.initial.place (list_left item l.count 1) l.out l.place (list_left item l.count l.i)
-
-abbrev pub decreases-loop-i : goal.decreases-loop-i
-decreases-loop-i l = l.count - l.i
+    LeftToPut l.initial.out l.initial.place (list_left item l.count 1) l.out l.place (list_left item l.count l.i)

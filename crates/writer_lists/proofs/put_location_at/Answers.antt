@@ -1,5 +1,4 @@
 -- The location's name and its invariant.
-use borrow.Author.Rules.{rules}
 use Rattle.written.specs.Written.{location_tokens}
 use Rattle.writer_parts.specs.Parts.{located}
 use Rattle.writer_lists.proofs.put_location_at.Goals as goal

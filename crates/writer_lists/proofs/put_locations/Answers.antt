@@ -1,15 +1,10 @@
 -- The first i locations are put.
-use borrow.Author.Rules.{rules}
 use mathlib.Core.List.{[], ◌∷◌}
-use Prim.Native.Nat.{◌-◌, ◌≤◌}
 use native.Mathlib.Omega.{arith}
 use Rattle.reader_tokens.specs.Scan.{bytes}
 use Rattle.written.specs.Written.{location_tokens, location_list}
-use Rattle.writer_tokens.specs.Tokens.{LeftToPut}
 use Rattle.writer_tokens.specs.TokenLaws.{left_all}
-use Rattle.writer_lists.specs.Lists.{list_left}
 use Rattle.writer_lists.specs.ListLaws.{list_none, list_some, list_next}
-use Rattle.writer_lists.proofs.put_locations.Invariants.{invariant-loop-i, decreases-loop-i}
 use Rattle.writer_lists.proofs.put_locations.Goals as goal
 
 pub returns-then-count-eq0 : goal.returns-then-count-eq0
@@ -22,7 +17,7 @@ pub put_location_at-place-requires : goal.put_location_at-place-requires
 put_location_at-place-requires c = (c.requires, omega arith)
 
 pub loop-i-init : goal.loop-i-init
-loop-i-init c = (omega arith, left_all)
+loop-i-init c = left_all
 
 pub put_location_at-place-requires-in-loop-i : goal.put_location_at-place-requires-in-loop-i
 put_location_at-place-requires-in-loop-i c = (
@@ -33,12 +28,10 @@ put_location_at-place-requires-in-loop-i c = (
 pub loop-i-preserved : goal.loop-i-preserved
 loop-i-preserved c =
     let args = c.args in
-    let loop = c.loop-i in (
-      omega arith,
-      list_next (location_tokens args.u args.t) args.t.location_count loop.i (omega arith)
-          loop.invariant.1 c.put_token-comma.ensures
-          c.put_location_at-place-in-loop-i.ensures,
-    )
+    let loop = c.loop-i in
+    list_next (location_tokens args.u args.t) args.t.location_count loop.i (omega arith)
+    loop.invariant c.put_token-comma.ensures
+    c.put_location_at-place-in-loop-i.ensures
 
 pub returns : goal.returns
 unfolding location_list
@@ -47,4 +40,4 @@ returns c =
     let loop = c.loop-i in
     list_some (bytes "state" ∷ []) (location_tokens args.u args.t) args.t.location_count loop.i
     (omega arith) (omega arith)
-    c.put_token-start.ensures c.put_location_at-place.ensures loop.invariant.1 c.put_token.ensures
+    c.put_token-start.ensures c.put_location_at-place.ensures loop.invariant c.put_token.ensures

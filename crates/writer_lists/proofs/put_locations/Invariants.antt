@@ -1,21 +1,10 @@
 -- The first i locations are put.
-use borrow.Author.Rules.{rules}
-use mathlib.Core.List.{[], ◌∷◌}
-use Prim.Native.Nat.{◌-◌, ◌≤◌}
-use native.Mathlib.Omega.{arith}
-use Rattle.reader_tokens.specs.Scan.{bytes}
-use Rattle.written.specs.Written.{location_tokens, location_list}
+use Rattle.written.specs.Written.{location_tokens}
 use Rattle.writer_tokens.specs.Tokens.{LeftToPut}
-use Rattle.writer_tokens.specs.TokenLaws.{left_all}
 use Rattle.writer_lists.specs.Lists.{list_left}
-use Rattle.writer_lists.specs.ListLaws.{list_none, list_some, list_next}
 use Rattle.writer_lists.proofs.put_locations.Given as goal
 
 abbrev pub invariant-loop-i : goal.invariant-loop-i
 invariant-loop-i l =
-    (l.i ≤ l.count)
-    × LeftToPut l.initial.out l.initial.place (list_left (location_tokens l.u l.t) l.count 1) l.out l.place
+    LeftToPut l.initial.out l.initial.place (list_left (location_tokens l.u l.t) l.count 1) l.out l.place
     (list_left (location_tokens l.u l.t) l.count l.i)
-
-abbrev pub decreases-loop-i : goal.decreases-loop-i
-decreases-loop-i l = l.count - l.i

@@ -1,5 +1,4 @@
 -- The two names, the arrow between them, the brace.
-use borrow.Author.Rules.{rules}
 use Rattle.written.specs.Written.{called}
 use Rattle.writer_tokens.specs.TokenLaws.{tokens_then}
 use Rattle.writer_parts.specs.Parts.{arrow}

@@ -1,5 +1,4 @@
 -- Nothing, or an assignment.
-use borrow.Author.Rules.{rules}
 use borrow.Author.Tests.{not-true, not-false}
 use Rattle.written.specs.Written.{called}
 use Rattle.writer_tokens.specs.TokenLaws.{tokens_none, tokens_then}

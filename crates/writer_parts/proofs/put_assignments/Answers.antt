@@ -1,13 +1,7 @@
 -- The assignments of the first i clocks are put, and what is left is left.
-use borrow.Author.Rules.{rules}
-use Prim.Native.Nat.{◌-◌}
 use native.Mathlib.Omega.{arith}
-use Rattle.written.specs.Written.{assignments_tokens}
-use Rattle.writer_tokens.specs.Tokens.{LeftToPut}
 use Rattle.writer_tokens.specs.TokenLaws.{tokens_none, left_all, left_then, left_same}
-use Rattle.writer_parts.specs.Parts.{assignments_left}
 use Rattle.writer_parts.specs.PartLaws.{assignments_more, assignments_none, assignments_end, assignments_all}
-use Rattle.writer_parts.proofs.put_assignments.Invariants.{invariant-loop-i, decreases-loop-i}
 use Rattle.writer_parts.proofs.put_assignments.Goals as goal
 
 pub loop-i-init : goal.loop-i-init
@@ -17,7 +11,7 @@ pub loop-i-preserved : goal.loop-i-preserved
 loop-i-preserved c =
     let args = c.args in
     let loop = c.loop-i in
-    rw c.either-some.ensures (left_then (left_same (assignments_more args.u args.all args.clocks loop.i
+    (left_then (left_same (assignments_more args.u args.all args.clocks loop.i
     loop.some (omega arith)) loop.invariant) c.put_assignment-place.ensures)
 
 pub returns-then-some : goal.returns-then-some
@@ -27,9 +21,6 @@ returns-then-some c =
     (left_same (assignments_end args.u args.all args.clocks loop.i (omega arith))
     (rw c.if-some.true at loop.invariant)).whole
     c.put_token.ensures
-
-pub shape_of-out : goal.shape_of-out
-shape_of-out c = c.loop-i.invariant.same_length
 
 pub returns : goal.returns
 returns c =

@@ -1,5 +1,4 @@
 -- The clock, the sign, the constant.
-use borrow.Author.Rules.{rules}
 use Rattle.written.specs.Written.{called, comparison_tokens}
 use Rattle.writer_tokens.specs.TokenLaws.{tokens_then}
 use Rattle.writer_parts.proofs.put_comparison.Goals as goal

@@ -1,15 +1,11 @@
 -- The first i comparisons are put.
-use borrow.Author.Rules.{rules}
 use mathlib.Core.List.{[], ◌∷◌}
-use Prim.Native.Nat.{◌-◌, ◌≤◌}
 use native.Mathlib.Omega.{arith}
 use Rattle.reader_tokens.specs.Scan.{bytes}
 use Rattle.written.specs.Written.{constraint_tokens}
-use Rattle.writer_tokens.specs.Tokens.{LeftToPut}
 use Rattle.writer_tokens.specs.TokenLaws.{left_all}
-use Rattle.writer_parts.specs.Parts.{items_left, compared}
+use Rattle.writer_parts.specs.Parts.{compared}
 use Rattle.writer_parts.specs.ItemLaws.{part_none, part_some, items_next}
-use Rattle.writer_parts.proofs.put_constraint.Invariants.{invariant-loop-i, decreases-loop-i}
 use Rattle.writer_parts.proofs.put_constraint.Goals as goal
 
 pub returns-then-count-eq0 : goal.returns-then-count-eq0
@@ -20,17 +16,14 @@ returns-then-count-eq0 c =
     args.g.count (omega arith)
 
 pub loop-i-init : goal.loop-i-init
-loop-i-init c = (omega arith, left_all)
+loop-i-init c = left_all
 
 pub loop-i-preserved : goal.loop-i-preserved
 loop-i-preserved c =
     let args = c.args in
-    let loop = c.loop-i in (
-      omega arith,
-      items_next (bytes "&&") args.closing.now (compared args.u args.g) args.g.count loop.i
-          (omega arith) loop.invariant.1 c.put_token-joined.ensures
-          c.put_comparison-place-in-loop-i.ensures,
-    )
+    let loop = c.loop-i in
+    items_next (bytes "&&") args.closing.now (compared args.u args.g) args.g.count loop.i
+    (omega arith) loop.invariant c.put_token-joined.ensures c.put_comparison-place-in-loop-i.ensures
 
 pub returns : goal.returns
 unfolding constraint_tokens
@@ -40,4 +33,4 @@ returns c =
     part_some (args.opening.now ∷ []) (bytes "&&") args.closing.now (compared args.u args.g)
     args.g.count loop.i (omega arith) (omega arith)
     c.put_token-start.ensures c.put_comparison-place.ensures
-    loop.invariant.1 c.put_token.ensures
+    loop.invariant c.put_token.ensures

@@ -1,5 +1,4 @@
 -- The locations, the guard, the label, the assignments, the brace.
-use borrow.Author.Rules.{rules}
 use Rattle.written.specs.Written.{edge_tokens}
 use Rattle.writer_tokens.specs.TokenLaws.{tokens_then}
 use Rattle.writer_parts.specs.Parts.{arrow}

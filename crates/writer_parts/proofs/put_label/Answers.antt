@@ -1,5 +1,4 @@
 -- The word, the channel, the mark, the end.
-use borrow.Author.Rules.{rules}
 use Rattle.written.specs.Written.{label_tokens}
 use Rattle.writer_tokens.specs.TokenLaws.{tokens_then}
 use Rattle.writer_parts.proofs.put_label.Goals as goal

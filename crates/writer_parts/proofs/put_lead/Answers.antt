@@ -1,5 +1,4 @@
 -- A comma, or the word that opens the assignments.
-use borrow.Author.Rules.{rules}
 use Rattle.writer_parts.proofs.put_lead.Goals as goal
 
 pub returns-then-some : goal.returns-then-some

@@ -1,5 +1,4 @@
 -- The name, then the invariant.
-use borrow.Author.Rules.{rules}
 use Rattle.written.specs.Written.{called}
 use Rattle.writer_tokens.specs.TokenLaws.{tokens_then}
 use Rattle.writer_parts.specs.Parts.{located}

@@ -1,5 +1,4 @@
 -- The mark of each direction.
-use borrow.Author.Rules.{rules}
 use Rattle.written.specs.Written.{mark_bytes}
 use Rattle.writer_parts.proofs.put_mark.Goals as goal
 

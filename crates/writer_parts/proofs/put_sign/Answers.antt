@@ -1,5 +1,4 @@
 -- The bytes of each sign.
-use borrow.Author.Rules.{rules}
 use Rattle.written.specs.Written.{sign_bytes}
 use Rattle.writer_parts.proofs.put_sign.Goals as goal
 

@@ -1,5 +1,4 @@
 -- The underscores, the letter, the number.
-use borrow.Author.Rules.{rules}
 use Rattle.byte_slices.specs.Put.{puts_then}
 use Rattle.writer_tokens.proofs.put_name.Goals as goal
 

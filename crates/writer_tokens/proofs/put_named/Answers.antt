@@ -1,5 +1,4 @@
 -- The name, then the space.
-use borrow.Author.Rules.{rules}
 use Rattle.writer_tokens.specs.TokenLaws.{token_puts}
 use Rattle.writer_tokens.proofs.put_named.Goals as goal
 

@@ -1,9 +1,0 @@
--- `random_texts::whole` is safe and ends.
-use Rattle.std.proofs.Common.{◌-◌, ◌≤◌, rules}
-use Rattle.random_texts.proofs.whole.Given as goal
-
-abbrev pub invariant-loop : goal.invariant-loop
-invariant-loop l = l.counter ≤ l.n
-
-abbrev pub decreases-loop : goal.decreases-loop
-decreases-loop l = l.n - l.counter
