@@ -48,9 +48,9 @@ fn channel_part(period: usize, s: &[u8], r: HeadRead) -> Result<HeadRead, Fault>
 
 // The process and its name (SPECIFICATION 3.1).
 #[tactic(auto, unfolding(crate::specs::Reading::process_read))]
-fn process_part(s: &[u8], p: usize, names: [Name; NAME_SLOTS]) -> Result<Declaration, Fault>
+fn process_part(s: &[u8], p: usize, names: &[Name; NAME_SLOTS]) -> Result<Declaration, Fault>
     requires { length s.now ≤ largest_text }
-    ensures { result ≡ process_read s.now p names }
+    ensures { result ≡ process_read s.now p names.now }
 {
     let a = reader_parts::take(s, p, reader_tokens::PROCESS)?;
     let d = reader_parts::declare(s, a, names, PROCESS_SLOT, 0, PROCESS_LIMIT)?;
@@ -96,8 +96,7 @@ fn read_head(period: usize, s: &[u8]) -> Result<HeadRead, Fault>
     ensures { read_head period s.now ≡ head_of result }
 {
     let a = channel_part(period, s, start())?;
-    let before = a.names;
-    let d = process_part(s, a.end, before)?;
+    let d = process_part(s, a.end, &a.names)?;
     let names = d.names;
     let b = HeadRead {
         names,
@@ -110,9 +109,9 @@ fn read_head(period: usize, s: &[u8]) -> Result<HeadRead, Fault>
 
 // The start (SPECIFICATION 3.1).
 #[tactic(auto, unfolding(crate::specs::Reading::init_read))]
-fn init_part(s: &[u8], p: usize, names: [Name; NAME_SLOTS]) -> Result<Use, Fault>
+fn init_part(s: &[u8], p: usize, names: &[Name; NAME_SLOTS]) -> Result<Use, Fault>
     requires { length s.now ≤ largest_text }
-    ensures { result ≡ init_read s.now p names }
+    ensures { result ≡ init_read s.now p names.now }
 {
     let a = reader_parts::take(s, p, reader_tokens::INIT)?;
     let u = reader_parts::use_name(s, a, names, FIRST_LOCATION, LOCATION_LIMIT, false)?;
@@ -129,11 +128,11 @@ fn edge_part(
     period: usize,
     s: &[u8],
     p: usize,
-    names: [Name; NAME_SLOTS],
+    names: &[Name; NAME_SLOTS],
     channels: [Channel; CHANNEL_LIMIT],
 ) -> Result<EdgesRead, Fault>
     requires { TickLength period × (length s.now ≤ largest_text) }
-    ensures { ReadsEdges (edge_part period s.now) names (before_edges p channels) result }
+    ensures { ReadsEdges (edge_part period s.now) names.now (before_edges p channels) result }
 {
     if !reader_parts::ahead(s, p, reader_tokens::TRANS) {
         return Ok(reader_lists::no_edges(p, channels));
@@ -144,9 +143,9 @@ fn edge_part(
 
 // The name of the process again, and the end of the text (SPECIFICATION 3.1, 3.3).
 #[tactic(auto, unfolding(crate::specs::Reading::end_read))]
-fn end_part(s: &[u8], p: usize, names: [Name; NAME_SLOTS]) -> Result<usize, Fault>
+fn end_part(s: &[u8], p: usize, names: &[Name; NAME_SLOTS]) -> Result<usize, Fault>
     requires { length s.now ≤ largest_text }
-    ensures { result ≡ end_read s.now p names }
+    ensures { result ≡ end_read s.now p names.now }
 {
     let a = reader_parts::take(s, p, reader_tokens::CLOSE)?;
     let b = reader_parts::take(s, a, reader_tokens::SYSTEM)?;
@@ -179,11 +178,10 @@ fn read_whole(period: usize, s: &[u8]) -> Result<Text, Fault>
 {
     let r = read_head(period, s)?;
     let h = r.head;
-    let names = r.names;
-    let i = init_part(s, r.end, names)?;
+    let i = init_part(s, r.end, &r.names)?;
     let given = h.channels;
-    let e = edge_part(period, s, i.end, names, given)?;
-    end_part(s, e.end, names)?;
+    let e = edge_part(period, s, i.end, &r.names, given)?;
+    end_part(s, e.end, &r.names)?;
     let channels = e.channels;
     let clocks = h.clocks;
     let locations = h.locations;

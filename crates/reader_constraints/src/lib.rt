@@ -122,12 +122,12 @@ fn comparison_next(
     period: usize,
     s: &[u8],
     p: usize,
-    names: [Name; NAME_SLOTS],
+    names: &[Name; NAME_SLOTS],
     invariant: bool,
     over: bool,
 ) -> Result<ComparisonRead, Fault>
     requires { TickLength period × (length s.now ≤ largest_text) }
-    ensures { result ≡ comparison_next period s.now p names invariant over }
+    ensures { result ≡ comparison_next period s.now p names.now invariant over }
 {
     let clock = reader_parts::use_name(s, p, names, FIRST_CLOCK, CLOCK_LIMIT, over)?;
     let read = sign_next(s, clock.end, invariant)?;
@@ -182,12 +182,12 @@ fn constraint(
     period: usize,
     s: &[u8],
     p: usize,
-    names: [Name; NAME_SLOTS],
+    names: &[Name; NAME_SLOTS],
     invariant: bool,
     closing: usize,
 ) -> Result<ConstraintRead, Fault>
     requires { TickLength period × (length s.now ≤ largest_text) }
-    ensures { result ≡ constraint period s.now p names invariant closing }
+    ensures { result ≡ constraint period s.now p names.now invariant closing }
 {
     let mut c = blank_constraint();
     let mut q = p;
@@ -213,13 +213,13 @@ fn optional(
     period: usize,
     s: &[u8],
     p: usize,
-    names: [Name; NAME_SLOTS],
+    names: &[Name; NAME_SLOTS],
     opening: usize,
     invariant: bool,
     closing: usize,
 ) -> Result<ConstraintRead, Fault>
     requires { TickLength period × (length s.now ≤ largest_text) }
-    ensures { result ≡ optional period opening invariant closing s.now p names }
+    ensures { result ≡ optional period opening invariant closing s.now p names.now }
 {
     if !reader_parts::ahead(s, p, opening) {
         return Ok(ConstraintRead {
@@ -236,10 +236,10 @@ pub fn guard(
     period: usize,
     s: &[u8],
     p: usize,
-    names: [Name; NAME_SLOTS],
+    names: &[Name; NAME_SLOTS],
 ) -> Result<ConstraintRead, Fault>
     requires { TickLength period × (length s.now ≤ largest_text) }
-    ensures { result ≡ guard period s.now p names }
+    ensures { result ≡ guard period s.now p names.now }
 {
     optional(
         period,
@@ -257,10 +257,10 @@ pub fn invariant(
     period: usize,
     s: &[u8],
     p: usize,
-    names: [Name; NAME_SLOTS],
+    names: &[Name; NAME_SLOTS],
 ) -> Result<ConstraintRead, Fault>
     requires { TickLength period × (length s.now ≤ largest_text) }
-    ensures { result ≡ invariant period s.now p names }
+    ensures { result ≡ invariant period s.now p names.now }
 {
     optional(
         period,

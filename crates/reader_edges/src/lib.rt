@@ -42,9 +42,9 @@ fn mark_next(s: &[u8], p: usize) -> Result<MarkRead, Fault>
     }
 }
 
-fn direction_at(channels: [Channel; CHANNEL_LIMIT], k: usize) -> Direction
+fn direction_at(channels: &[Channel; CHANNEL_LIMIT], k: usize) -> Direction
     requires { k < channel_limit }
-    ensures { result ≡ (get_or channels k no_channel).direction }
+    ensures { result ≡ (get_or channels.now k no_channel).direction }
 {
     channels[k].direction
 }
@@ -98,11 +98,11 @@ pub struct LabelRead {
 fn label_next(
     s: &[u8],
     p: usize,
-    names: [Name; NAME_SLOTS],
-    channels: [Channel; CHANNEL_LIMIT],
+    names: &[Name; NAME_SLOTS],
+    channels: &[Channel; CHANNEL_LIMIT],
 ) -> Result<LabelRead, Fault>
     requires { length s.now ≤ largest_text }
-    ensures { result ≡ label_next s.now p names channels }
+    ensures { result ≡ label_next s.now p names.now channels.now }
 {
     let synced = reader_parts::take(s, p, reader_tokens::SYNC)?;
     let channel = reader_parts::use_name(s, synced, names, FIRST_CHANNEL, CHANNEL_LIMIT, false)?;
@@ -133,10 +133,10 @@ fn assign_next(
     period: usize,
     s: &[u8],
     p: usize,
-    names: [Name; NAME_SLOTS],
+    names: &[Name; NAME_SLOTS],
 ) -> Result<AssignRead, Fault>
     requires { TickLength period × (length s.now ≤ largest_text) }
-    ensures { result ≡ assign_next period s.now p names }
+    ensures { result ≡ assign_next period s.now p names.now }
 {
     let clock = reader_parts::use_name(s, p, names, FIRST_CLOCK, CLOCK_LIMIT, false)?;
     let becomes = reader_parts::take(s, clock.end, reader_tokens::BECOMES)?;
@@ -181,10 +181,10 @@ fn assign_items(
     period: usize,
     s: &[u8],
     p: usize,
-    names: [Name; NAME_SLOTS],
+    names: &[Name; NAME_SLOTS],
 ) -> Result<AssignsRead, Fault>
     requires { TickLength period × (length s.now ≤ largest_text) }
-    ensures { result ≡ assign_items period s.now names p no_assignments }
+    ensures { result ≡ assign_items period s.now names.now p no_assignments }
 {
     let mut all = no_assignments();
     let mut q = p;
@@ -208,10 +208,10 @@ fn assigns(
     period: usize,
     s: &[u8],
     p: usize,
-    names: [Name; NAME_SLOTS],
+    names: &[Name; NAME_SLOTS],
 ) -> Result<AssignsRead, Fault>
     requires { TickLength period × (length s.now ≤ largest_text) }
-    ensures { result ≡ assigns period s.now p names }
+    ensures { result ≡ assigns period s.now p names.now }
 {
     if !reader_parts::ahead(s, p, reader_tokens::ASSIGN) {
         return Ok(AssignsRead {
@@ -238,12 +238,12 @@ pub fn edge_next(
     period: usize,
     s: &[u8],
     p: usize,
-    names: [Name; NAME_SLOTS],
-    channels: [Channel; CHANNEL_LIMIT],
+    names: &[Name; NAME_SLOTS],
+    channels: &[Channel; CHANNEL_LIMIT],
     over: bool,
 ) -> Result<EdgeRead, Fault>
     requires { TickLength period × (length s.now ≤ largest_text) }
-    ensures { result ≡ edge_next period s.now p names channels over }
+    ensures { result ≡ edge_next period s.now p names.now channels.now over }
 {
     let source = reader_parts::use_name(s, p, names, FIRST_LOCATION, LOCATION_LIMIT, over)?;
     let a = reader_parts::take(s, source.end, reader_tokens::ARROW)?;

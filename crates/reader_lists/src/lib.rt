@@ -218,7 +218,7 @@ fn named_item(period: usize, s: &[u8], r: &mut HeadRead, k: Named) -> Result<(),
         r.head.clock_count,
         r.head.location_count,
     );
-    let d = reader_parts::declare(s, r.end, r.names, first_slot(k), n, limit(k))?;
+    let d = reader_parts::declare(s, r.end, &r.names, first_slot(k), n, limit(k))?;
     let names = d.names;
     r.names = names;
     r.end = d.end;
@@ -232,7 +232,7 @@ fn named_item(period: usize, s: &[u8], r: &mut HeadRead, k: Named) -> Result<(),
             r.head.clock_count = n + 1;
         }
         Named::Location => {
-            let i = reader_constraints::invariant(period, s, d.end, names)?;
+            let i = reader_constraints::invariant(period, s, d.end, &names)?;
             r.head.locations[n] = Location {
                 name: d.name,
                 invariant: i.constraint,
@@ -267,15 +267,15 @@ pub fn named_items(period: usize, s: &[u8], r: HeadRead, k: Named) -> Result<Hea
 fn edge_item(
     period: usize,
     s: &[u8],
-    names: [Name; NAME_SLOTS],
+    names: &[Name; NAME_SLOTS],
     r: &mut EdgesRead,
 ) -> Result<(), Fault>
     requires { TickLength period × (length s.now ≤ largest_text) }
-    ensures { ReadsEdges (one_item period Item.Edge s.now) names r.old (in_place result r.new) }
+    ensures { ReadsEdges (one_item period Item.Edge s.now) names.now r.old (in_place result r.new) }
 {
     let n = r.count;
     let full = EDGE_LIMIT <= n;
-    let e = reader_edges::edge_next(period, s, r.end, names, r.channels, full)?;
+    let e = reader_edges::edge_next(period, s, r.end, names, &r.channels, full)?;
     let channels = marked(r.channels, e.channel, e.input);
     r.channels = channels;
     r.edges[n] = e.edge;
@@ -289,11 +289,11 @@ pub fn edges(
     period: usize,
     s: &[u8],
     p: usize,
-    names: [Name; NAME_SLOTS],
+    names: &[Name; NAME_SLOTS],
     channels: [Channel; CHANNEL_LIMIT],
 ) -> Result<EdgesRead, Fault>
     requires { TickLength period × (length s.now ≤ largest_text) }
-    ensures { ReadsEdges (items period Item.Edge s.now) names (before_edges p channels) result }
+    ensures { ReadsEdges (items period Item.Edge s.now) names.now (before_edges p channels) result }
 {
     let mut q = no_edges(p, channels);
     for _ in 0..EDGE_LIMIT {

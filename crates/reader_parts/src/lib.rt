@@ -97,8 +97,8 @@ fn is_spelled_as(s: &[u8], n: Name, w: Name) -> bool
 
 // The slot of a declared name, NAME_SLOTS where it is not declared.
 #[tactic(auto, using(reader_tokens::proofs::Scan::past_yes, reader_tokens::proofs::Scan::past_no, reader_tokens::proofs::Scan::past_end), unfolding(crate::specs::Names::slot_of))]
-pub fn find(s: &[u8], names: [Name; NAME_SLOTS], name: Name) -> usize
-    ensures { result ≡ slot_of s.now names name }
+pub fn find(s: &[u8], names: &[Name; NAME_SLOTS], name: Name) -> usize
+    ensures { result ≡ slot_of s.now names.now name }
 {
     for (i, n) in names.iter().enumerate() {
         if is_spelled_as(s, *n, name) {
@@ -121,13 +121,13 @@ pub struct Declaration {
 pub fn declare(
     s: &[u8],
     p: usize,
-    names: [Name; NAME_SLOTS],
+    names: &[Name; NAME_SLOTS],
     first: usize,
     number: usize,
     limit: usize,
 ) -> Result<Declaration, Fault>
     requires { (first + limit ≤ name_slots) × (length s.now ≤ largest_text) }
-    ensures { result ≡ declare s.now p names first number limit }
+    ensures { result ≡ declare s.now p names.now first number limit }
 {
     let read = name_next(s, p)?;
     let name = read.name;
@@ -137,7 +137,7 @@ pub fn declare(
     if limit <= number {
         return Err(Fault::TooManyItems(name.place as usize));
     }
-    let mut all = names;
+    let mut all = *names;
     all[first + number] = name;
     Ok(Declaration {
         names: all,
@@ -159,13 +159,13 @@ pub struct Use {
 pub fn use_name(
     s: &[u8],
     p: usize,
-    names: [Name; NAME_SLOTS],
+    names: &[Name; NAME_SLOTS],
     first: usize,
     limit: usize,
     over: bool,
 ) -> Result<Use, Fault>
     requires { (first + limit ≤ name_slots) × (length s.now ≤ largest_text) }
-    ensures { result ≡ use_name s.now p names first limit over }
+    ensures { result ≡ use_name s.now p names.now first limit over }
 {
     let read = name_next(s, p)?;
     let place = read.name.place as usize;

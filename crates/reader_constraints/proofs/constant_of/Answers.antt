@@ -28,6 +28,6 @@ pub returns : goal.returns
 unfolding constant_of
 returns c =
     let ticks = c.in_ticks-value.ensures ∙ ap (in_ticks _) c.number_at-n.ensures in
-    let allowed : c.in_ticks-value.result ≤ largest_constant = c.if-value-gt-LARGEST_CONSTANT.false in
-    let value = ticks ∙ unclamped_ticks _ c.requires _ (rw ticks at allowed) in
-    rw (c.if-t-ne-NUMERAL.false, sym value, le-ltb largest_constant _ allowed, le-ltb _ _ c.if-value-least.false)
+    let fits : c.in_ticks-value.result ≤ largest_constant = c.if-value-gt-LARGEST_CONSTANT.false in
+    let value = ticks ∙ unclamped_ticks _ c.requires _ (rw ticks at fits) in
+    rw (c.if-t-ne-NUMERAL.false, sym value, le-ltb largest_constant _ fits, le-ltb _ _ c.if-value-least.false)
