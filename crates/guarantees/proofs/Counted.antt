@@ -1,10 +1,11 @@
 -- The safe-state operation on an accepted text with a keep that is long enough.
-use Rattle.std.specs.Prelude.{◌≡◌, Bool, true, false, ℕ, ◌≤◌, ◌<◌, ltb, length}
+use Rattle.std.specs.Prelude.{◌≡◌, Bool, true, false, ℕ, ◌≤◌, ◌<◌, ltb, length, Result, Ok, Err}
 use Rattle.std.proofs.Math.Path.{refl, ap, subst}
 use Rattle.std.proofs.Common.{sym, ◌∙◌, arith, ext_get_or, ltb-false}
 use mathlib.Core.List.{List}
 use Rattle.std.proofs.Math.Dec.{T}
-use Rattle.refusals.specs.Refusals.{keep_too_short}
+use Rattle.refusals.specs.declared.Refusal.{Refusal}
+use Rattle.refusals.specs.Answers.{answer_of}
 use Rattle.reader_record.specs.declared.Text.{Text}
 use Rattle.systems.specs.Tests.{at, ones, table}
 use Rattle.systems.specs.Definitions.{LargestSafeSet}
@@ -19,26 +20,31 @@ use Rattle.clocks.specs.Safe.{safe_states}
 use Rattle.clocks.proofs.Encoded.{safe_states_same}
 use Rattle.clocks.specs.Accepted.{Accepted}
 use Rattle.clocks.proofs.Contract.{system}
-use Rattle.refusals.specs.declared.Verdict.{Verdict}
+use Rattle.clocks_read.specs.declared.Reading.{Reading}
+use Rattle.clocks_read.specs.Reading.{read_outcome, text_in}
 use Rattle.clocks_read.specs.Laws.{read_accepted}
 use Rattle.two_texts.specs.Two.{text_of}
-use Rattle.safe_states.specs.declared.SafeAnswer.TheVariants.{Refused}
 use Rattle.safe_states.specs.Outcome.{Outcome, found_outcome, kept_outcome, answered, safe_outcome}
 use Rattle.safe_states.specs.Consistent.{succeeds}
 use Rattle.demands.specs.Words.{Keeps, LongEnough}
 use Rattle.demands.proofs.Same.{same_safe}
 use Rattle.demands.proofs.Kept.{packed_byte, safe_length, keeps}
-use Rattle.guarantees.specs.Texts.{AcceptedText, states, meaning, number, safe_refusal}
+use Rattle.guarantees.specs.Texts.{AcceptedText, states, meaning, number}
 use Rattle.guarantees.specs.Demands.{SafeDemand}
 use Rattle.guarantees.proofs.Setting.{states_are, one_capping, numbered_states, numbered_number}
 
 kept_long : (t : Text) (keep : List ℕ) (b : Bool) → ltb (length keep) (bytes_for (state_count t)) ≡ b
-    → LongEnough (safe_refusal (kept_outcome t keep).answer) → ltb (length keep) (bytes_for (state_count t)) ≡ false
-unfolding kept_outcome safe_refusal
-kept_long t keep true q m =
-    let e : (kept_outcome t keep).answer ≡ Refused (keep_too_short (bytes_for (state_count t))) = rw (q, kept_outcome) in
-    absurd (m.keep (bytes_for (state_count t)) (ap safe_refusal e))
+    → LongEnough (kept_outcome t keep).answer → ltb (length keep) (bytes_for (state_count t)) ≡ false
+unfolding kept_outcome
+kept_long t keep true q m = absurd (m.keep (bytes_for (state_count t)) (rw (q, kept_outcome)))
 kept_long t keep false q m = q
+
+-- an accepted text's outcome goes by its record
+kept_by : (r : Result Reading Refusal) (keep : List ℕ) → answer_of r ≡ Ok tt → LongEnough (answered r keep).answer
+    → LongEnough (kept_outcome (text_in r) keep).answer
+unfolding answered
+kept_by (Ok r) keep e l = l
+kept_by (Err f) keep e l = let z : ◌≡◌ {A = ℕ} 0 1 = cc in absurd (omega arith)
 
 -- the bits that are written are the table
 bits_table : (n : ℕ) (X : List Bool) (d : List ℕ) → length X ≡ n → table n (bit_at (packed n X d)) ≡ X
@@ -58,15 +64,15 @@ module _ (period : ℕ) (s : List ℕ) (a : AcceptedText period s) (keep : List 
   accepted = (read_accepted period s a).accepted
 
   -- a keep that is not refused with 13 is long enough
-  keep_long : LongEnough (safe_refusal (safe_outcome period s keep).answer)
+  keep_long : LongEnough (safe_outcome period s keep).answer
       → ltb (length keep) (bytes_for (state_count t))
       ≡ false
-  unfolding safe_outcome answered
+  unfolding safe_outcome
   keep_long l = kept_long t keep (ltb (length keep) (bytes_for (state_count t))) refl
-      (subst (λ (r : Verdict). LongEnough (safe_refusal (answered r t keep).answer)) a l)
+      (kept_by (read_outcome period s) keep a l)
 
   -- it gives what it should
-  pub safe_demand : LongEnough (safe_refusal (safe_outcome period s keep).answer)
+  pub safe_demand : LongEnough (safe_outcome period s keep).answer
       → SafeDemand period s a keep (safe_outcome period s keep)
   safe_demand l =
       let f = keep_long l in

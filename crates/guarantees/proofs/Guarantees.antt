@@ -1,15 +1,16 @@
--- THE GUARANTEES, to be read first. The demands (SPECIFICATION 17.1 to 17.3) as theorems about the operations' own
+-- THE GUARANTEES, to be read first. SPECIFICATION 17.1 to 17.3 as theorems about the operations' own
 -- outcomes (read_outcome, safe_outcome, search_outcome, check_outcome, widest_outcome, implementation_outcome,
 -- join_outcome), which the contracts of the operations equate with what the code answers and leaves in the lent slices.
 -- The words are defined in specs/Texts.antt and, for systems, in crate systems, Definitions.antt, in crate reachable,
--- Meaning.antt, and in crate demands, Words.antt; what each demand asks, clause by clause, is a record or a type of cases
+-- Meaning.antt, and in crate demands, Words.antt; what each asks, point by point, is a record or a type of cases
 -- in crate demands, Demands.antt and Answers.antt, and in specs/ here, Demands.antt, Implementations.antt, Lengths.antt,
 -- Parallel.antt, Assignments.antt and Joining.antt. The other files of proofs/ are laws: the operations on two texts are
 -- instances of those on two systems.
-use Rattle.std.specs.Prelude.{◌≡◌, ◌↔◌, List, ℕ}
+use Rattle.std.specs.Prelude.{◌≡◌, ◌↔◌, List, ℕ, Err}
 use Rattle.std.proofs.Common.{subst}
 use Rattle.std.proofs.Math.Option.{none, some}
 use Rattle.refusals.specs.declared.Refusal.{Refusal}
+use Rattle.refusals.specs.Answers.{answer_of}
 use Rattle.systems.specs.Definitions.{LargestSafeSet}
 use Rattle.clocks_read.specs.Reading.{read_outcome}
 use Rattle.clocks_read.specs.Laws.{read_accepted}
@@ -17,20 +18,16 @@ use Rattle.two_texts.specs.Two.{text_of, two_judged}
 use Rattle.two_texts.proofs.Laws.{judged_none, channels_equal, judged_by_some}
 use Rattle.safe_states.specs.Outcome.{safe_outcome}
 use Rattle.implementation_check.specs.Outcome.{implementation_outcome}
-use Rattle.search.specs.declared.SearchAnswer.TheVariants as search_answer
 use Rattle.search.specs.Outcome as search
 use Rattle.two_operations.specs.Outcome.{search_outcome, check_outcome, widest_outcome}
-use Rattle.joining.specs.declared.JoinAnswer.TheVariants as joined
 use Rattle.joining.specs.Outcome as joining
 use Rattle.joining.specs.Outcome.{join_outcome}
-use Rattle.tables.specs.declared.CheckAnswer.TheVariants as checked
-use Rattle.tables.specs.declared.WidestAnswer.TheVariants as made
 use Rattle.tables.specs.Outcome.{Checked, Widened}
-use Rattle.demands.specs.Words.{Consistent, search_refusal, check_refusal, widest_refusal, LongEnough, RightForm}
+use Rattle.demands.specs.Words.{Consistent, LongEnough, RightForm}
 use Rattle.demands.specs.Demands.{SearchDemand, CheckDemand, WidestDemand}
 use Rattle.demands.proofs.Theorems as demands
 use Rattle.demands.specs.Answers.{SearchAnswers, CheckAnswers, WidestAnswers}
-use Rattle.guarantees.specs.Texts.{AcceptedText, states, meaning, number, right_meaning, right_number, EqualChannels, safe_refusal}
+use Rattle.guarantees.specs.Texts.{AcceptedText, states, meaning, number, right_meaning, right_number, EqualChannels}
 use Rattle.guarantees.specs.Demands.{SafeDemand}
 use Rattle.guarantees.specs.Comparisons.{ComparisonsDemand}
 use Rattle.guarantees.proofs.Compared.{comparisons_promised}
@@ -59,7 +56,7 @@ lengths_judged = length_promised
 
 -- Everything else at any one tick length, `period`, one for all texts (SPECIFICATION 4.7, 17.9).
 module _ (period : ℕ) where
-  -- Each accepted text has safe states, the largest safe set of its configurations: what the demands say of every such
+  -- Each accepted text has safe states, the largest safe set of its configurations: what is asked of every such
   -- set S is said of one that there is.
   pub safe_states_exist : (s : List ℕ) (a : AcceptedText period s) → (S : (meaning period s a).State → Type 0)
       × LargestSafeSet (meaning period s a) S
@@ -67,7 +64,7 @@ module _ (period : ℕ) where
 
   -- The safe-state operation on an accepted text with a keep that is long enough.
   pub safe_states_given : (s : List ℕ) (a : AcceptedText period s) (keep : List ℕ)
-      → LongEnough (safe_refusal (safe_outcome period s keep).answer)
+      → LongEnough (safe_outcome period s keep).answer
       → SafeDemand period s a keep (safe_outcome period s keep)
   safe_states_given = counted.safe_demand period
 
@@ -83,7 +80,7 @@ module _ (period : ℕ) where
 
   -- Codes 10 and 11, for every text: when they come, and that parallel edges, which give moves by one channel and lead
   -- to one state, make one move (SPECIFICATION 17.12).
-  pub parallel_exactly : (s : List ℕ) → ParallelDemand period s (read_outcome period s).answer
+  pub parallel_exactly : (s : List ℕ) → ParallelDemand period s (answer_of (read_outcome period s))
   parallel_exactly = parallel_promised period
 
   -- The assignments of an accepted text, as reading hands them out: what they are, that they count towards M, that a
@@ -98,7 +95,7 @@ module _ (period : ℕ) where
       → JoinDemand period left right out (join_outcome period left right out)
   joining_exactly = join_promised period
 
-  -- DEMAND 1 (SPECIFICATION 17.1). An operation on two texts gives one of the codes 24 and 1 to 12 exactly unless both
+  -- SPECIFICATION 17.1: an operation on two texts gives one of the codes 24 and 1 to 12 exactly unless both
   -- texts are accepted and have equal channels; then everything lent is as it came.
   pub texts_judged : (left right : List ℕ) → (none ≡ two_judged period left right)
       ↔ (AcceptedText period left × AcceptedText period right × EqualChannels period left right)
@@ -110,22 +107,22 @@ module _ (period : ℕ) where
   pub search_judged : (left right keep : List ℕ) (back line : ℕ) (run : List ℕ) (r : Refusal)
       → two_judged period left right ≡ some r
       → search_outcome period left right keep back line run
-      ≡ record { answer = search_answer.Refused r; keep = keep; run = run }
+      ≡ record { answer = Err r; keep = keep; run = run }
   unfolding search_outcome
   search_judged left right keep back line run r e = judged_by_some (two_judged period left right) _ _ r e
 
   pub check_judged : (left right keep table : List ℕ) (r : Refusal) → two_judged period left right ≡ some r
-      → check_outcome period left right keep table ≡ record { answer = checked.Refused r; keep = keep }
+      → check_outcome period left right keep table ≡ record { answer = Err r; keep = keep }
   unfolding check_outcome
   check_judged left right keep table r e = judged_by_some (two_judged period left right) _ _ r e
 
   pub widest_judged : (left right keep table : List ℕ) (r : Refusal) → two_judged period left right ≡ some r
-      → widest_outcome period left right keep table ≡ record { answer = made.Refused r; keep = keep; table = table }
+      → widest_outcome period left right keep table ≡ record { answer = Err r; keep = keep; table = table }
   unfolding widest_outcome
   widest_judged left right keep table r e = judged_by_some (two_judged period left right) _ _ r e
 
   pub join_judged : (left right out : List ℕ) (r : Refusal) → two_judged period left right ≡ some r
-      → join_outcome period left right out ≡ record { answer = joined.Refused r; out = out }
+      → join_outcome period left right out ≡ record { answer = Err r; out = out }
   unfolding join_outcome joining.refused
   join_judged left right out r e = judged_by_some (two_judged period left right) _ _ r e
 
@@ -168,9 +165,9 @@ module _ (period : ℕ) where
 
     -- With a consistent left and slices that are long enough:
     module _ (consistent : Consistent (meaning period left a)) where
-      -- DEMAND 2, the check of a table with a right header and a right length (SPECIFICATION 17.2).
+      -- SPECIFICATION 17.2, the check of a table with a right header and a right length.
       pub demand_2_check : (keep table : List ℕ) → RightForm (states period left) (states period right) table
-          → LongEnough (check_refusal (check_outcome period left right keep table).answer)
+          → LongEnough (check_outcome period left right keep table).answer
           → CheckDemand (meaning period left a) (right_meaning period left right b) (states period left)
           (states period right) (number period left a)
           (right_number period left right b) keep table (check_outcome period left right keep table)
@@ -181,12 +178,12 @@ module _ (period : ℕ) where
           (demands.demand_2_check (left_capping period left right a b e)
           (right_capping period left right a b e) consistent keep table
           (form_sizes period left right a b e (λ n w. RightForm n w table) form)
-          (subst (λ (o : Checked). LongEnough (check_refusal o.answer))
+          (subst (λ (o : Checked). LongEnough o.answer)
           (check_is period left right a b e keep table) long))
 
-      -- DEMAND 2, the widest table (SPECIFICATION 17.2).
+      -- SPECIFICATION 17.2, the widest table.
       pub demand_2_widest : (keep table : List ℕ)
-          → LongEnough (widest_refusal (widest_outcome period left right keep table).answer)
+          → LongEnough (widest_outcome period left right keep table).answer
           → WidestDemand (meaning period left a) (right_meaning period left right b) (states period left)
           (states period right) (number period left a)
           (right_number period left right b) keep table (widest_outcome period left right keep table)
@@ -196,13 +193,13 @@ module _ (period : ℕ) where
           (widest_is period left right a b e keep table)
           (demands.demand_2_widest (left_capping period left right a b e)
           (right_capping period left right a b e) consistent keep table
-          (subst (λ (o : Widened). LongEnough (widest_refusal o.answer))
+          (subst (λ (o : Widened). LongEnough o.answer)
           (widest_is period left right a b e keep table)
           long))
 
-      -- DEMAND 3, the search (SPECIFICATION 17.3).
+      -- SPECIFICATION 17.3, the search.
       pub demand_3 : (keep : List ℕ) (back line : ℕ) (run : List ℕ)
-          → LongEnough (search_refusal (search_outcome period left right keep back line run).answer)
+          → LongEnough (search_outcome period left right keep back line run).answer
           → SearchDemand (meaning period left a) (right_meaning period left right b) (states period left)
           (states period right) (number period left a)
           (right_number period left right b) keep run (search_outcome period left right keep back line run)
@@ -212,5 +209,5 @@ module _ (period : ℕ) where
           (search_is period left right a b e keep back line run)
           (demands.demand_3 (left_capping period left right a b e)
           (right_capping period left right a b e) consistent keep back line run
-          (subst (λ (o : search.Outcome). LongEnough (search_refusal o.answer))
+          (subst (λ (o : search.Outcome). LongEnough o.answer)
           (search_is period left right a b e keep back line run) long))

@@ -1,5 +1,5 @@
 -- Joining two texts is as specs/Joining.antt asks.
-use Rattle.std.specs.Prelude.{◌≡◌, Bool, true, false, ◌&&◌, cond, List, ◌++◌, ℕ, ◌≤◌, ◌<◌, T, leb, ltb, take, drop}
+use Rattle.std.specs.Prelude.{◌≡◌, Bool, true, false, ◌&&◌, cond, List, ◌++◌, ℕ, ◌≤◌, ◌<◌, T, leb, ltb, take, drop, Result, Ok, Err}
 use Rattle.std.proofs.Math.Path.{refl, sym, ap, subst}
 use Rattle.std.proofs.Common.{◌∙◌, arith, leb→le, le→leb, ltb-true, ltb-false}
 use Rattle.std.proofs.Math.Option.{Option, none, some}
@@ -7,11 +7,13 @@ use Rattle.std.proofs.Math.ListN.{length}
 use Rattle.std.proofs.Math.Seq.{take-append_seam}
 use Rattle.limits.specs.Limits.{shortest_tick, largest_text, state_limit}
 use Rattle.refusals.specs.declared.Refusal.{Refusal}
-use Rattle.refusals.specs.Refusals.{limit_exceeded, out_too_short}
-use Rattle.refusals.specs.declared.Verdict.TheVariants as verdict
+use Rattle.refusals.specs.declared.Refusal.TheVariants.{LimitExceeded, OutTooShort}
+use Rattle.refusals.specs.Refusals as numbers
+use Rattle.refusals.specs.Refusals.{code}
+use Rattle.refusals.specs.Answers.{answer_of}
 use Rattle.systems.specs.Bools.{none_some, and_T, and_both}
 use Rattle.reader_record.specs.declared.Text.{Text}
-use Rattle.reader.specs.Reading.{read_text}
+use Rattle.reader.specs.Reading.{record_of, read_text}
 use Rattle.clocks.specs.States.{state_count}
 use Rattle.clocks.specs.Accepted.{Accepted}
 use Rattle.clocks_read.specs.Reading.{judged_reading, parsed_reading, read_outcome}
@@ -22,8 +24,6 @@ use Rattle.joined.specs.Joined.{counts_fit}
 use Rattle.joined.proofs.Formed.{fits_means, fits_test}
 use Rattle.joined_written.specs.Joins.{JoinsTexts}
 use Rattle.joined_written.specs.Results.{written_joins}
-use Rattle.joining.specs.declared.JoinAnswer.{JoinAnswer}
-use Rattle.joining.specs.declared.JoinAnswer.TheVariants.{Written, Refused}
 use Rattle.joining.specs.Outcome.{Outcome, refused, within_limits, laid_text, record_outcome, joined_record, joined_bytes, join_outcome}
 use Rattle.guarantees.specs.Texts.{AcceptedText}
 use Rattle.guarantees.proofs.Allowed.{two_codes}
@@ -51,11 +51,11 @@ test_within t z h =
 -- how joining ends, for a joined record t and its text z: `found` is what codes 24 and 1 to 12 find
 data Ends (found : Option Refusal) (t : Text) (z out : List ℕ) : Outcome → Type 0 where
   refuses : (r : Refusal) → found ≡ some r → Ends found t z out (refused r out)
-  passes : none ≡ found → (Within t z → ⊥) → Ends found t z out (refused limit_exceeded out)
+  passes : none ≡ found → (Within t z → ⊥) → Ends found t z out (refused LimitExceeded out)
   lacks : none ≡ found → Within t z → length out < length z
-      → Ends found t z out (refused (out_too_short (length z)) out)
+      → Ends found t z out (refused (OutTooShort (length z)) out)
   writes : none ≡ found → Within t z → length z ≤ length out
-      → Ends found t z out (record { answer = Written (length z); out = z ++ drop (length z) out })
+      → Ends found t z out (record { answer = Ok (length z); out = z ++ drop (length z) out })
 
 record_ends : (found : Option Refusal) (t : Text) (z out : List ℕ) → none ≡ found
     → Ends found t z out (record_outcome t z out)
@@ -63,8 +63,8 @@ unfolding record_outcome laid_text
 record_ends found t z out e = go (within_limits t z) refl (ltb (length out) (length z)) refl
   where
     go : (b : Bool) → within_limits t z ≡ b → (s : Bool) → ltb (length out) (length z) ≡ s
-        → Ends found t z out (cond b (cond s (refused (out_too_short (length z)) out)
-        (record { answer = Written (length z); out = z ++ drop (length z) out })) (refused limit_exceeded out))
+        → Ends found t z out (cond b (cond s (refused (OutTooShort (length z)) out)
+        (record { answer = Ok (length z); out = z ++ drop (length z) out })) (refused LimitExceeded out))
     go false d s h = passes e (λ w. subst T d (within_test t z w))
     go true d true h = lacks e (test_within t z (subst T (sym d) tt)) (ltb-true (length out) (length z) h)
     go true d false h = writes e (test_within t z (subst T (sym d) tt)) (ltb-false (length out) (length z) h)
@@ -84,10 +84,16 @@ module _ (period : ℕ) (left right out : List ℕ) where
           (refuses r e)
 
 -- a text that is read, and whose record is accepted, is accepted
-accepted_text : (period : ℕ) (s : List ℕ) → (read_text period s).answer ≡ verdict.Accepted
-    → Accepted (read_text period s).text → AcceptedText period s
-unfolding read_outcome parsed_reading judged_reading
-accepted_text period s e a = rw (e, a.clean)
+accepted_by : (r : Result Text Refusal) → answer_of r ≡ Ok tt → Accepted (record_of r)
+    → answer_of (parsed_reading r) ≡ Ok tt
+unfolding parsed_reading judged_reading
+accepted_by (Ok t) e a = rw (a.clean, judged_reading)
+accepted_by (Err f) e a = let z : ◌≡◌ {A = ℕ} 0 1 = cc in absurd (omega arith)
+
+accepted_text : (period : ℕ) (s : List ℕ) → answer_of (read_text period s) ≡ Ok tt
+    → Accepted (record_of (read_text period s)) → AcceptedText period s
+unfolding read_outcome
+accepted_text period s = accepted_by (read_text period s)
 
 -- the text that is written joins the two, where it passes no limit
 text_joins : (period : ℕ) (left right : List ℕ) → Joinable period left right
@@ -117,15 +123,15 @@ text_joins period left right j =
     )
 
 -- a refusal is not a length, and one code is not another
-never_written : (r : Refusal) (n : ℕ) → ◌≡◌ {A = JoinAnswer} (Refused r) (Written n) → ⊥
+never_written : (r : Refusal) (n : ℕ) → ◌≡◌ {A = Result ℕ Refusal} (Err r) (Ok n) → ⊥
 never_written r n e = let z : ◌≡◌ {A = ℕ} 0 1 = cc in absurd (omega arith)
 
-same_code : (r s : Refusal) → ◌≡◌ {A = JoinAnswer} (Refused r) (Refused s) → r.code ≡ s.code
-same_code r s e = let z : r ≡ s = cc in ap (λ (x : Refusal). x.code) z
+same_code : (r s : Refusal) → ◌≡◌ {A = Result ℕ Refusal} (Err r) (Err s) → code r ≡ code s
+same_code r s e = let z : r ≡ s = cc in ap code z
 
 module _ (period : ℕ) (left right out : List ℕ) where
   -- codes 24 and 1 to 12 come before 25
-  early : (r : Refusal) → two_judged period left right ≡ some r → r.code < limit_exceeded.code
+  early : (r : Refusal) → two_judged period left right ≡ some r → code r < code LimitExceeded
   early r e = omega (arith, two_codes period left right r e)
 
   abbrev z : List ℕ
@@ -135,11 +141,11 @@ module _ (period : ℕ) (left right out : List ℕ) where
   unfolding refused
   by_code r e = record {
     limit = (
-      λ h. absurd (omega (arith, early r e, same_code r limit_exceeded h)),
+      λ h. absurd (omega (arith, early r e, same_code r LimitExceeded h)),
       λ (n, w). none_some r (n ∙ e),
     );
     short = λ n. (
-      λ h. absurd (omega (arith, early r e, same_code r (out_too_short n) h)),
+      λ h. absurd (omega (arith, early r e, same_code r (OutTooShort n) h)),
       λ (j, m, l). none_some r (j.judged ∙ e),
     );
     long = λ n. (λ h. absurd (never_written r n h), λ (j, m, l). none_some r (j.judged ∙ e));
@@ -149,47 +155,47 @@ module _ (period : ℕ) (left right out : List ℕ) where
   }
 
   by_limit : none ≡ two_judged period left right → (Within (joined_record period left right) z → ⊥)
-      → JoinDemand period left right out (refused limit_exceeded out)
+      → JoinDemand period left right out (refused LimitExceeded out)
   unfolding refused
   by_limit e w = record {
     limit = (λ h. (e, w), λ h. refl);
     short = λ n. (
-      λ h. absurd (omega (arith, same_code limit_exceeded (out_too_short n) h)),
+      λ h. absurd (omega (arith, same_code LimitExceeded (OutTooShort n) h)),
       λ (j, m, l). absurd (w j.within),
     );
-    long = λ n. (λ h. absurd (never_written limit_exceeded n h), λ (j, m, l). absurd (w j.within));
-    text = λ n h. absurd (never_written limit_exceeded n h);
-    joins = λ n h. absurd (never_written limit_exceeded n h);
+    long = λ n. (λ h. absurd (never_written LimitExceeded n h), λ (j, m, l). absurd (w j.within));
+    text = λ n h. absurd (never_written LimitExceeded n h);
+    joins = λ n h. absurd (never_written LimitExceeded n h);
     untouched = λ h. refl;
   }
 
   by_length : none ≡ two_judged period left right → Within (joined_record period left right) z
-      → length out < length z → JoinDemand period left right out (refused (out_too_short (length z)) out)
+      → length out < length z → JoinDemand period left right out (refused (OutTooShort (length z)) out)
   unfolding refused
   by_length e w l = record {
     limit = (
-      λ h. absurd (omega (arith, same_code (out_too_short (length z)) limit_exceeded h)),
+      λ h. absurd (omega (arith, same_code (OutTooShort (length z)) LimitExceeded h)),
       λ (n, v). absurd (v w),
     );
     short = λ n. (
       λ h.
-          let k : out_too_short (length z) ≡ out_too_short n = cc in
-          let m : length z ≡ n = ap (λ (x : Refusal). x.p) k in
+          let k : OutTooShort (length z) ≡ OutTooShort n = cc in
+          let m : length z ≡ n = ap numbers.p k in
           (record { judged = e; within = w }, sym m, omega arith),
       λ (j, m, k). rw m,
     );
-    long = λ n. (λ h. absurd (never_written (out_too_short (length z)) n h), λ (j, m, k). absurd (omega arith));
-    text = λ n h. absurd (never_written (out_too_short (length z)) n h);
-    joins = λ n h. absurd (never_written (out_too_short (length z)) n h);
+    long = λ n. (λ h. absurd (never_written (OutTooShort (length z)) n h), λ (j, m, k). absurd (omega arith));
+    text = λ n h. absurd (never_written (OutTooShort (length z)) n h);
+    joins = λ n h. absurd (never_written (OutTooShort (length z)) n h);
     untouched = λ h. refl;
   }
 
   by_text : none ≡ two_judged period left right → Within (joined_record period left right) z
       → length z ≤ length out
-      → JoinDemand period left right out (record { answer = Written (length z); out = z ++ drop (length z) out })
+      → JoinDemand period left right out (record { answer = Ok (length z); out = z ++ drop (length z) out })
   by_text e w l = record {
-    limit = (λ h. absurd (never_written limit_exceeded (length z) (sym h)), λ (n, v). absurd (v w));
-    short = λ n. (λ h. absurd (never_written (out_too_short n) (length z) (sym h)), λ (j, m, k). absurd (omega arith));
+    limit = (λ h. absurd (never_written LimitExceeded (length z) (sym h)), λ (n, v). absurd (v w));
+    short = λ n. (λ h. absurd (never_written (OutTooShort n) (length z) (sym h)), λ (j, m, k). absurd (omega arith));
     long = λ n. (
       λ h.
           let m : length z ≡ n = cc in

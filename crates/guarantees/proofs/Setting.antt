@@ -2,16 +2,17 @@
 -- system is capped to its numbered one, and the operations' outcomes are those of the two systems.
 use Rattle.std.proofs.Math.Path.{◌≡◌, refl}
 use Rattle.std.proofs.Common.{sym, subst, arith}
-use Rattle.std.specs.Prelude.{Bool, cond, List, ℕ, ltb, length}
+use Rattle.std.specs.Prelude.{Bool, if◌then◌else◌, List, ℕ, ltb, nat_lt, length, Result, Ok, Err}
 use Rattle.std.proofs.Math.Bool.{true, false}
 use Rattle.std.proofs.Math.Option.{none}
 use Rattle.limits.specs.Limits.{largest_text, tick_allowed}
 use Rattle.reader_record.specs.Formed.{WellFormed}
 use Rattle.reader_record.specs.declared.Text.{Text}
 use Rattle.reader_parts.specs.declared.Fault.TheVariants.{TooLong}
-use Rattle.refusals.specs.Refusals.{tick_out_of_range}
-use Rattle.refusals.specs.declared.Verdict.TheVariants as verdict
-use Rattle.reader.specs.declared.Parsed.{Parsed}
+use Rattle.refusals.specs.declared.Refusal.{Refusal}
+use Rattle.refusals.specs.declared.Refusal.TheVariants.{TickOutOfRange}
+use Rattle.refusals.specs.Answers.{answer_of}
+use Rattle.reader.specs.Faults.{refusal_of}
 use Rattle.reader.specs.Reading as reader
 use Rattle.systems.specs.Finite.{FiniteSystem, Capping}
 use Rattle.systems.specs.Renumbered.{renumbered_system, renumbered, renumbered_capping}
@@ -44,14 +45,14 @@ module _ (period : ℕ) where
   judged_first : (s : List ℕ) → AcceptedText period s
       → (tick_allowed period ≡ true) × (ltb largest_text (length s) ≡ false)
   unfolding reader.read_text
-  judged_first s a = go (tick_allowed period) (ltb largest_text (length s)) _ (read_accepted period s a).parsed
+  judged_first s a = go (tick_allowed period) (nat_lt largest_text (length s)) _ (read_accepted period s a).parsed
     where
-      go : (b c : Bool) (p : Parsed)
-          → (cond b (cond c (reader.refused TooLong) p) (reader.refused_by (tick_out_of_range period))).answer
-          ≡ verdict.Accepted → (b ≡ true) × (c ≡ false)
-      go true true p e = unfold reader.refused in let z : ◌≡◌ {A = ℕ} 0 1 = cc in absurd (omega arith)
-      go true false p e = (refl, refl)
-      go false c p e = let z : ◌≡◌ {A = ℕ} 0 1 = cc in absurd (omega arith)
+      go : (b c : Bool) (r : Result Text Refusal)
+          → answer_of (if b then (if c then Err (refusal_of TooLong) else r) else Err (TickOutOfRange period)) ≡ Ok tt
+          → (b ≡ true) × (c ≡ false)
+      go true true r e = let z : ◌≡◌ {A = ℕ} 0 1 = cc in absurd (omega arith)
+      go true false r e = (refl, refl)
+      go false c r e = let z : ◌≡◌ {A = ℕ} 0 1 = cc in absurd (omega arith)
 
   pub tick_is_allowed : (s : List ℕ) → AcceptedText period s → tick_allowed period ≡ true
   tick_is_allowed s a = (judged_first s a).0

@@ -1,11 +1,10 @@
 -- What is asked of the safe-state operation's own outcome, for an accepted text (SPECIFICATION 8.3, 8.4, 12.2).
 -- Definitions only: the theorems are in proofs/Guarantees.antt. What is asked of the operations on two texts is defined
 -- in crate demands.
-use Rattle.std.specs.Prelude.{◌≡◌, ◌↔◌, Bool, List, ℕ, T}
+use Rattle.std.specs.Prelude.{◌≡◌, ◌↔◌, Bool, List, ℕ, T, Ok}
 use Rattle.systems.specs.Tests.{ones, table}
 use Rattle.systems.specs.Definitions.{LargestSafeSet}
 use Rattle.bitmaps.specs.Bits.{bit_at}
-use Rattle.safe_states.specs.declared.SafeAnswer.TheVariants.{Found}
 use Rattle.safe_states.specs.Outcome.{Outcome}
 use Rattle.demands.specs.Words.{Consistent, KeepWritten}
 use Rattle.guarantees.specs.Texts.{AcceptedText, states, meaning, number}
@@ -17,7 +16,7 @@ module _ (period : ℕ) where
     -- the answer is a count and a truth value (SPECIFICATION 12.2)
     pub count : ℕ
     pub start : Bool
-    pub answer : o.answer ≡ Found count start
+    pub answer : o.answer ≡ Ok (record { count = count; start = start })
     -- the start is safe exactly when some implementation satisfies the text (SPECIFICATION 8.3)
     pub start_safe : (S : (meaning period s a).State → Type 0) → LargestSafeSet (meaning period s a) S → T start
         ↔ S (meaning period s a).start

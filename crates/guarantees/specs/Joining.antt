@@ -1,9 +1,9 @@
 -- What is promised of joining two texts (SPECIFICATION 12.10, 17.10, 18): when codes 25 and 26 come, and what the joined
 -- text means. Definitions only: the theorem is in proofs/Guarantees.antt.
-use Rattle.std.specs.Prelude.{◌≡◌, ◌↔◌, List, ◌++◌, ℕ, ◌≤◌, ◌<◌, length, take, drop}
+use Rattle.std.specs.Prelude.{◌≡◌, ◌↔◌, List, ◌++◌, ℕ, ◌≤◌, ◌<◌, length, take, drop, Ok, Err}
 use Rattle.std.proofs.Math.Option.{none}
 use Rattle.limits.specs.Limits.{shortest_tick, largest_text, state_limit}
-use Rattle.refusals.specs.Refusals.{limit_exceeded, out_too_short}
+use Rattle.refusals.specs.declared.Refusal.TheVariants.{LimitExceeded, OutTooShort}
 use Rattle.systems.specs.Definitions.{Implementation, Satisfies}
 use Rattle.conjunction.specs.Definitions.{SameSignature}
 use Rattle.conjunction.proofs.Conjunction.{carried}
@@ -13,7 +13,6 @@ use Rattle.clocks.proofs.Contract.{signature}
 use Rattle.pairing.specs.Channels as channels
 use Rattle.two_texts.specs.Two.{text_of, two_judged}
 use Rattle.joined.specs.Joined.{CountsFit}
-use Rattle.joining.specs.declared.JoinAnswer.TheVariants.{Written, Refused}
 use Rattle.joining.specs.Outcome.{Outcome, joined_record, joined_bytes}
 use Rattle.guarantees.specs.Texts.{AcceptedText, meaning, right_meaning}
 
@@ -44,17 +43,17 @@ module _ (period : ℕ) (left right : List ℕ) where
   -- the outcome o of joining them, with the slice `out`
   pub record JoinDemand (out : List ℕ) (o : Outcome) : Type 1 where
     -- 25: exactly where codes 24 and 1 to 12 find nothing and a limit is passed
-    pub limit : (o.answer ≡ Refused limit_exceeded) ↔ ((none ≡ two_judged period left right)
+    pub limit : (o.answer ≡ Err LimitExceeded) ↔ ((none ≡ two_judged period left right)
         × (Within (joined_record period left right) (joined_bytes period left right) → ⊥))
     -- 26: exactly where no limit is passed and the slice has fewer bytes than the text, with their number
-    pub short : (n : ℕ) → (o.answer ≡ Refused (out_too_short n))
+    pub short : (n : ℕ) → (o.answer ≡ Err (OutTooShort n))
         ↔ (Joinable × (n ≡ length (joined_bytes period left right)) × (length out < n))
     -- a length: exactly where the slice has so many bytes
-    pub long : (n : ℕ) → (o.answer ≡ Written n)
+    pub long : (n : ℕ) → (o.answer ≡ Ok n)
         ↔ (Joinable × (n ≡ length (joined_bytes period left right)) × (n ≤ length out))
     -- then the text is in front of the bytes that were there, and it joins the two texts
-    pub text : (n : ℕ) → o.answer ≡ Written n → o.out ≡ joined_bytes period left right ++ drop n out
-    pub joins : (n : ℕ) → o.answer ≡ Written n
+    pub text : (n : ℕ) → o.answer ≡ Ok n → o.out ≡ joined_bytes period left right ++ drop n out
+    pub joins : (n : ℕ) → o.answer ≡ Ok n
         → (a : AcceptedText period left) × (b : AcceptedText period right) × Joins a b (take n o.out)
     -- every refusal leaves the slice as it came
-    pub untouched : ((n : ℕ) → o.answer ≡ Written n → ⊥) → o.out ≡ out
+    pub untouched : ((n : ℕ) → o.answer ≡ Ok n → ⊥) → o.out ≡ out

@@ -1,24 +1,17 @@
 -- What is asked of tick lengths (SPECIFICATION 4.7, 13.3, 13.4, 17.9): how constants come to ticks, and that an
 -- operation gives 24 exactly where the tick length is not allowed, and then leaves everything lent as it came.
 -- Definitions only: the theorems are in proofs/Guarantees.antt.
-use Rattle.std.specs.Prelude.{◌≡◌, List, ℕ, ◌+◌, ◌*◌, ◌≤◌, ◌<◌}
+use Rattle.std.specs.Prelude.{◌≡◌, List, ℕ, ◌+◌, ◌*◌, ◌≤◌, ◌<◌, Err}
 use Rattle.limits.specs.Limits.{TickLength, shortest_tick}
-use Rattle.refusals.specs.Refusals.{tick_out_of_range}
-use Rattle.refusals.specs.declared.Verdict.TheVariants as verdict
+use Rattle.refusals.specs.declared.Refusal.TheVariants.{TickOutOfRange}
 use Rattle.reader_constraints.specs.Constraints.{in_ticks}
-use Rattle.clocks_read.specs.Reading as reading
 use Rattle.clocks_read.specs.Reading.{read_outcome}
-use Rattle.safe_states.specs.declared.SafeAnswer.TheVariants as counted
 use Rattle.safe_states.specs.Outcome.{safe_outcome}
 use Rattle.implementation_check.specs.Outcome.{implementation_outcome}
-use Rattle.search.specs.declared.SearchAnswer.TheVariants as search_answer
-use Rattle.tables.specs.declared.CheckAnswer.TheVariants as checked
-use Rattle.tables.specs.declared.WidestAnswer.TheVariants as made
 use Rattle.two_operations.specs.Outcome.{search_outcome, check_outcome, widest_outcome}
-use Rattle.joining.specs.declared.JoinAnswer.TheVariants as joined
 use Rattle.joining.specs.Outcome.{join_outcome}
-use Rattle.demands.specs.Words.{Without, search_refusal, check_refusal, widest_refusal}
-use Rattle.guarantees.specs.Texts.{AcceptedText, safe_refusal, join_refusal}
+use Rattle.demands.specs.Words.{Without}
+use Rattle.guarantees.specs.Texts.{AcceptedText}
 
 -- q is c / period to the nearest whole number, an exact half upward: q ticks are at most half a tick more than c, and c
 -- is less than half a tick more than q ticks
@@ -34,36 +27,36 @@ pub record TicksDemand : Type 0 where
 
 -- a tick length that is not allowed: each operation gives 24, and everything lent is as it came
 pub record LengthRefused (period : ℕ) : Type 0 where
-  pub read : (s : List ℕ) → read_outcome period s ≡ reading.refused (tick_out_of_range period)
+  pub read : (s : List ℕ) → read_outcome period s ≡ Err (TickOutOfRange period)
   pub safe_states : (s keep : List ℕ)
-      → safe_outcome period s keep ≡ record { answer = counted.Refused (tick_out_of_range period); keep = keep }
-  pub implementation : (s : List ℕ) → implementation_outcome period s ≡ verdict.Refused (tick_out_of_range period)
+      → safe_outcome period s keep ≡ record { answer = Err (TickOutOfRange period); keep = keep }
+  pub implementation : (s : List ℕ) → implementation_outcome period s ≡ Err (TickOutOfRange period)
   pub search : (left right keep : List ℕ) (back line : ℕ) (run : List ℕ)
       → search_outcome period left right keep back line run
-      ≡ record { answer = search_answer.Refused (tick_out_of_range period); keep = keep; run = run }
+      ≡ record { answer = Err (TickOutOfRange period); keep = keep; run = run }
   pub check : (left right keep table : List ℕ)
       → check_outcome period left right keep table
-      ≡ record { answer = checked.Refused (tick_out_of_range period); keep = keep }
+      ≡ record { answer = Err (TickOutOfRange period); keep = keep }
   pub widest : (left right keep table : List ℕ)
       → widest_outcome period left right keep table
-      ≡ record { answer = made.Refused (tick_out_of_range period); keep = keep; table = table }
+      ≡ record { answer = Err (TickOutOfRange period); keep = keep; table = table }
   pub join : (left right out : List ℕ)
       → join_outcome period left right out
-      ≡ record { answer = joined.Refused (tick_out_of_range period); out = out }
+      ≡ record { answer = Err (TickOutOfRange period); out = out }
 
 -- an allowed one: no operation gives 24
 pub record LengthPassed (period : ℕ) : Type 0 where
-  pub read : (s : List ℕ) (p : ℕ) → (read_outcome period s).answer ≡ verdict.Refused (tick_out_of_range p) → ⊥
-  pub safe_states : (s keep : List ℕ) → Without tick_out_of_range (safe_refusal (safe_outcome period s keep).answer)
-  pub implementation : (s : List ℕ) (p : ℕ) → implementation_outcome period s ≡ verdict.Refused (tick_out_of_range p) → ⊥
+  pub read : (s : List ℕ) → Without TickOutOfRange (read_outcome period s)
+  pub safe_states : (s keep : List ℕ) → Without TickOutOfRange (safe_outcome period s keep).answer
+  pub implementation : (s : List ℕ) → Without TickOutOfRange (implementation_outcome period s)
   pub search : (left right keep : List ℕ) (back line : ℕ) (run : List ℕ)
-      → Without tick_out_of_range (search_refusal (search_outcome period left right keep back line run).answer)
+      → Without TickOutOfRange (search_outcome period left right keep back line run).answer
   pub check : (left right keep table : List ℕ)
-      → Without tick_out_of_range (check_refusal (check_outcome period left right keep table).answer)
+      → Without TickOutOfRange (check_outcome period left right keep table).answer
   pub widest : (left right keep table : List ℕ)
-      → Without tick_out_of_range (widest_refusal (widest_outcome period left right keep table).answer)
+      → Without TickOutOfRange (widest_outcome period left right keep table).answer
   pub join : (left right out : List ℕ)
-      → Without tick_out_of_range (join_refusal (join_outcome period left right out).answer)
+      → Without TickOutOfRange (join_outcome period left right out).answer
 
 -- both, and that a text is accepted only at an allowed one
 pub record LengthDemand (period : ℕ) : Type 0 where

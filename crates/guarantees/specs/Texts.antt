@@ -1,41 +1,25 @@
 -- The words of the demands over the bytes of texts: the systems that texts mean, and the numbers of their states
 -- (SPECIFICATION 6.5, 6.6, 7.4, 9.1, 9.2). Definitions only. What is asked of two systems is defined in crate demands.
-use Rattle.std.specs.Prelude.{◌≡◌, List, ℕ}
-use Rattle.std.proofs.Math.Option.{Option, none, some}
-use Rattle.refusals.specs.declared.Refusal.{Refusal}
-use Rattle.refusals.specs.declared.Verdict.TheVariants as verdict
+use Rattle.std.specs.Prelude.{◌≡◌, List, ℕ, Ok}
+use Rattle.refusals.specs.Answers.{answer_of}
 use Rattle.systems.specs.Definitions.{System}
 use Rattle.systems.specs.Renumbered.{renumbered_system}
 use Rattle.clocks.specs.States.{ranges, state}
 use Rattle.clocks.proofs.Contract.{signature, uncapped}
-use Rattle.clocks_read.specs.Reading.{read_outcome}
+use Rattle.clocks_read.specs.Reading.{read_outcome, states_in}
 use Rattle.clocks_read.specs.Laws.{read_accepted}
 use Rattle.pairing.specs.Channels as channels
 use Rattle.two_texts.specs.Two.{text_of, step_of}
-use Rattle.safe_states.specs.declared.SafeAnswer.{SafeAnswer}
-use Rattle.safe_states.specs.declared.SafeAnswer.TheVariants.{Found, Refused}
-use Rattle.joining.specs.declared.JoinAnswer.{JoinAnswer}
-use Rattle.joining.specs.declared.JoinAnswer.TheVariants as joined
-
--- the refusal of the safe-state operation's answer, if it is one
-unfoldable pub safe_refusal : SafeAnswer → Option Refusal
-safe_refusal (Found n b) = none
-safe_refusal (Refused r) = some r
-
--- that of the joining's answer
-unfoldable pub join_refusal : JoinAnswer → Option Refusal
-join_refusal (joined.Written n) = none
-join_refusal (joined.Refused r) = some r
 
 -- at one tick length, `period` (SPECIFICATION 4.7)
 module _ (period : ℕ) where
   -- an accepted text: reading gives no refusal (SPECIFICATION 7.4)
   abbrev pub AcceptedText : List ℕ → Type 0
-  AcceptedText s = (read_outcome period s).answer ≡ verdict.Accepted
+  AcceptedText s = answer_of (read_outcome period s) ≡ Ok tt
 
   -- the number of its states, as reading returns it (SPECIFICATION 12.1)
   abbrev pub states : List ℕ → ℕ
-  states s = (read_outcome period s).states
+  states s = states_in (read_outcome period s)
 
   -- its system, clocks uncapped: this is what it means (SPECIFICATION 6.6)
   abbrev pub meaning : (s : List ℕ) → AcceptedText s → System (signature (text_of period s))
