@@ -1,5 +1,6 @@
 -- The joined text in a lent slice: what is printed does not depend on what the slice held, and the text at its front is
 -- what is printed.
+use Rattle.std.specs.Prelude.{Result, Ok, Err}
 use mathlib.Core.Path.{◌≡◌, refl, sym, ap}
 use mathlib.Core.Bool.{Bool, true, false, cond}
 use mathlib.Core.Option.{Option, none, some}
@@ -11,14 +12,12 @@ use lib.ListN.{length, take, drop, length-replicate}
 use lib.Seq.{take_at}
 use borrow.Author.Tests.{ltb-false}
 use Rattle.refusals.specs.declared.Refusal.{Refusal}
-use Rattle.refusals.specs.Refusals.{limit_exceeded, out_too_short}
+use Rattle.refusals.specs.declared.Refusal.TheVariants.{LimitExceeded, OutTooShort}
 use Rattle.byte_slices.specs.Laid.{Laid, laid}
 use Rattle.byte_slices.specs.Put.{front_laid}
 use Rattle.reader_record.specs.declared.Text.{Text}
 use Rattle.two_texts.specs.Two.{two_judged}
 use Rattle.two_texts.proofs.Laws.{judged_by_none, judged_by_some}
-use Rattle.joining.specs.declared.JoinAnswer.{JoinAnswer}
-use Rattle.joining.specs.declared.JoinAnswer.TheVariants.{Written, Refused}
 use Rattle.joining.specs.Outcome as joining
 use Rattle.joining.specs.Outcome.{Outcome, within_limits, laid_text, record_outcome, joined_record, joined_bytes, join_outcome}
 use Rattle.printed_lines.specs.Lines.{refusal_line}
@@ -30,8 +29,8 @@ use Rattle.printed_join.specs.Prints.{text_printed, join_prints}
 data OutcomesAlike (t u : List ℕ) : Outcome → Outcome → Type 0 where
   refused : (r : Refusal) → OutcomesAlike t u (joining.refused r t) (joining.refused r u)
   written : (z : List ℕ) → length z ≤ length t
-      → OutcomesAlike t u (record { answer = Written (length z); out = z ++ drop (length z) t })
-      (record { answer = Written (length z); out = z ++ drop (length z) u })
+      → OutcomesAlike t u (record { answer = Ok (length z); out = z ++ drop (length z) t })
+      (record { answer = Ok (length z); out = z ++ drop (length z) u })
 
 record_alike : (j : Text) (z t u : List ℕ) → length u ≡ length t
     → OutcomesAlike t u (record_outcome j z t) (record_outcome j z u)
@@ -40,12 +39,12 @@ record_alike j z t u e = rw e (go (within_limits j z) (ltb (length t) (length z)
   where
     laid_in : Bool → Bool → List ℕ → Outcome
     laid_in a b x =
-        cond a (cond b (joining.refused (out_too_short (length z)) x)
-        (record { answer = Written (length z); out = z ++ drop (length z) x })) (joining.refused limit_exceeded x)
+        cond a (cond b (joining.refused (OutTooShort (length z)) x)
+        (record { answer = Ok (length z); out = z ++ drop (length z) x })) (joining.refused LimitExceeded x)
 
     go : (a b : Bool) → ltb (length t) (length z) ≡ b → OutcomesAlike t u (laid_in a b t) (laid_in a b u)
-    go false b q = refused limit_exceeded
-    go true true q = refused (out_too_short (length z))
+    go false b q = refused LimitExceeded
+    go true true q = refused (OutTooShort (length z))
     go true false q = written z (ltb-false (length t) (length z) q)
 
 module _ (left right : List ℕ) where
@@ -72,7 +71,7 @@ module _ (left right : List ℕ) where
       go (some r) d = rw (outcome_refused t r d, outcome_refused u r d) (refused r)
 
 alike_written :
-    {t u : List ℕ} {n : ℕ} {a b : Outcome} → OutcomesAlike t u a b → a.answer ≡ Written n
+    {t u : List ℕ} {n : ℕ} {a b : Outcome} → OutcomesAlike t u a b → a.answer ≡ Ok n
     → (◌≡◌ {A = Laid} (record { slice = a.out; count = n }) (laid t (text_printed b.answer b.out)))
     × (length (text_printed b.answer b.out) ≤ length t)
 unfolding text_printed joining.refused
@@ -84,7 +83,7 @@ alike_written {t} {u} {n} (written z l) e =
     )
 
 alike_refused :
-    {t u : List ℕ} {f : Refusal} {a b : Outcome} → OutcomesAlike t u a b → a.answer ≡ Refused f
+    {t u : List ℕ} {f : Refusal} {a b : Outcome} → OutcomesAlike t u a b → a.answer ≡ Err f
     → (a.out ≡ t) × (refusal_line f ≡ text_printed b.answer b.out)
 unfolding text_printed joining.refused
 alike_refused (refused r) e = (refl, ap refusal_line (cc))
@@ -92,20 +91,20 @@ alike_refused (written z l) e = let z : ◌≡◌ {A = ℕ} 0 1 = cc in absurd (
 
 -- what the function leaves in the slice and returns
 module _
-    (left right : List ℕ) {a : JoinAnswer} {after : List ℕ} (out : List ℕ)
+    (left right : List ℕ) {a : Result ℕ Refusal} {after : List ℕ} (out : List ℕ)
     (done : ◌≡◌ {A = Outcome} (record { answer = a; out = after }) (join_outcome program_tick left right out)) where
   alike : OutcomesAlike out (zeros (length out)) (record { answer = a; out = after })
       (join_outcome program_tick left right (zeros (length out)))
   unfolding zeros
   alike = rw done (outcomes_alike left right out (zeros (length out)) (length-replicate (length out) 0))
 
-  pub join_laid : {n : ℕ} → a ≡ Written n
+  pub join_laid : {n : ℕ} → a ≡ Ok n
       → (◌≡◌ {A = Laid} (record { slice = after; count = n }) (laid out (join_prints (length out) left right)))
       × (length (join_prints (length out) left right) ≤ length out)
   unfolding join_prints
   join_laid e = alike_written alike e
 
-  pub join_refused : {f : Refusal} → a ≡ Refused f
+  pub join_refused : {f : Refusal} → a ≡ Err f
       → (after ≡ out) × (refusal_line f ≡ join_prints (length out) left right)
   unfolding join_prints
   join_refused e = alike_refused alike e

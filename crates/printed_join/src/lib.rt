@@ -8,7 +8,6 @@ ghost use Rattle.byte_slices.specs.Laid.{Laid, laid};
 ghost use Rattle.printed_lines.specs.Room.{line_limit};
 ghost use Rattle.printed_join.specs.Prints.{join_prints};
 
-use joining::JoinAnswer;
 use printed::PROGRAM_TICK;
 
 // The joined text, or the refusal. The slice is lent on as the one for the text.
@@ -19,9 +18,8 @@ pub fn join(left: &[u8], right: &[u8], out: &mut [u8]) -> usize
     ensures fits { line_limit ≤ length out.old → length (join_prints (length out.old)
         left.now right.now) ≤ length out.old }
 {
-    let answer = operations::join(PROGRAM_TICK, left, right, out);
-    match answer {
-        JoinAnswer::Written(n) => n,
-        JoinAnswer::Refused(f) => printed_lines::put_refusal(out, 0, f),
+    match operations::join(PROGRAM_TICK, left, right, out) {
+        Ok(n) => n,
+        Err(f) => printed_lines::put_refusal(out, 0, f),
     }
 }

@@ -1,5 +1,4 @@
 -- The slice has the text at its front, or the refusal's line is put over it.
-use borrow.Author.Rules.{rules}
 use native.Mathlib.Omega.{arith}
 use mathlib.Core.Path.{ap}
 use lib.ListN.{length}
@@ -7,19 +6,16 @@ use Rattle.byte_slices.specs.Put.{puts_same, puts_from, puts_laid}
 use Rattle.printed_join.proofs.Alike.{join_laid, join_refused}
 use Rattle.printed_join.proofs.join.Goals as goal
 
-pub returns-in-Written : goal.returns-in-Written
-returns-in-Written c =
+pub returns-in-Ok : goal.returns-in-Ok
+returns-in-Ok c =
     let args = c.args in
-    let done = c.join-answer.ensures in
-    let laid = join_laid args.left.now args.right.now args.out.now done c.in-Written.is in
+    let laid = join_laid args.left.now args.right.now args.out.now c.join.ensures c.in-Ok.is in
     record { prints = laid.0; fits = λ _. laid.1 }
 
-pub returns-in-Refused : goal.returns-in-Refused
-returns-in-Refused c =
+pub returns-in-Err : goal.returns-in-Err
+returns-in-Err c =
     let args = c.args in
-    let done = c.join-answer.ensures in
-    let refused = c.in-Refused.is in
-    let (untouched, line) = join_refused args.left.now args.right.now args.out.now done refused in
+    let (untouched, line) = join_refused args.left.now args.right.now args.out.now c.join.ensures c.in-Err.is in
     let put = c.put_refusal.ensures in
     record {
       prints = puts_laid (puts_same line (puts_from untouched put.puts));
