@@ -1,13 +1,15 @@
 -- That the hypotheses of the demands (SPECIFICATION 17.2, 17.3, 17.8, 17.9, 17.12, 17.13) can be met: by Post
 -- (SPECIFICATION 16.1) against itself, with slices that are long enough, by Sheet at tick length 1,000, by texts with two
 -- edges for one input (SPECIFICATION 16.10), and by texts with late clocks (SPECIFICATION 16.11).
-use Rattle.std.specs.Prelude.{◌≡◌, Bool, true, List, ℕ, zero, suc, ◌≤◌, ◌<◌, T, length}
+use Rattle.std.specs.Prelude.{◌≡◌, Bool, true, List, ℕ, zero, suc, ◌≤◌, ◌<◌, T, length, Result, Some}
 use Rattle.std.proofs.Math.Path.{refl}
 use Rattle.std.proofs.Common.{sym, ap, subst, ◌∙◌, arith}
 use Rattle.std.proofs.Math.Option.{some}
 use Rattle.reader_record.specs.declared.Text.{Text}
 use Rattle.reader_record.specs.Record.{assignment, edge}
-use Rattle.reader.specs.declared.Parsed.{Parsed}
+use Rattle.refusals.specs.declared.Refusal.{Refusal}
+use Rattle.refusals.specs.Answers.{answer_of}
+use Rattle.reader.specs.Reading as reader
 use Rattle.reader_formed.proofs.Formed.{read_formed}
 use Rattle.reader_examples.specs.Texts.{post, strict, loose, sheet, hush, twice, stay_or_go, reset_or_not, woken_twice}
 use Rattle.reader_examples.specs.Records.{twice_record, woken_twice_record}
@@ -15,7 +17,7 @@ use Rattle.reader_examples.specs.Read.{twice_read, woken_twice_read}
 use Rattle.clocks.specs.Meaning.{clock_value, after, moves, led, start_of}
 use Rattle.clocks.specs.Faults.{edge_gives, TwoWays, NoneLower}
 use Rattle.clocks.proofs.Standing.{start_stands}
-use Rattle.clocks_read.specs.declared.Reading.{Reading}
+use Rattle.clocks_read.specs.Reading.{text_in}
 use Rattle.clocks_read.specs.Laws.{read_accepted}
 use Rattle.two_texts.specs.Two.{text_of}
 use Rattle.systems.specs.Tests.{at}
@@ -26,7 +28,7 @@ use Rattle.systems.proofs.Theorems.{implementation_iff}
 use Rattle.two_operations.specs.Outcome.{search_outcome, check_outcome, widest_outcome}
 use Rattle.tables_header.specs.Header.{fits}
 use Rattle.demands.proofs.Long.{no_refusal}
-use Rattle.demands.specs.Words.{Consistent, LongEnough, search_refusal, check_refusal, widest_refusal, RightForm}
+use Rattle.demands.specs.Words.{Consistent, LongEnough, RightForm}
 use Rattle.guarantees.specs.Texts.{AcceptedText, states, meaning, number, EqualChannels}
 use Rattle.guarantees.specs.Lengths.{LengthRefused}
 use Rattle.guarantees.specs.Parallel.{record_of, StatesJudged}
@@ -52,7 +54,7 @@ strict_accepted = left_accepted strict_known post_known strict_post_equal
 
 -- an accepted text at another tick length than 1, which is an implementation there (SPECIFICATION 16.9)
 pub sheet_accepted : AcceptedText 1000 sheet
-sheet_accepted = ap (λ (r : Reading). r.answer) sheet_1000
+sheet_accepted = ap answer_of sheet_1000
 
 pub sheet_own : OwnImplementation (meaning 1000 sheet sheet_accepted) (number 1000 sheet sheet_accepted)
 sheet_own = (implementation_exactly 1000 sheet).itself starred_posts.sheet_passes sheet_accepted
@@ -70,11 +72,11 @@ pub post_own : OwnImplementation (meaning shortest_tick post post_accepted) (num
 post_own = (implementation_exactly shortest_tick post).itself starred_posts.post_passes post_accepted
 
 pub loose_says : (a : AcceptedText shortest_tick loose)
-    × Says (meaning shortest_tick loose a) (number shortest_tick loose a) (OutputBesideTick 2 3)
+    × Says (meaning shortest_tick loose a) (number shortest_tick loose a) (Some (OutputBesideTick 2 3))
 loose_says = ((implementation_exactly shortest_tick loose).beside 2 3).0 starred_posts.loose_beside
 
 pub hush_says : (a : AcceptedText shortest_tick hush)
-    × Says (meaning shortest_tick hush a) (number shortest_tick hush a) (NeitherPossible 3)
+    × Says (meaning shortest_tick hush a) (number shortest_tick hush a) (Some (NeitherPossible 3))
 hush_says = ((implementation_exactly shortest_tick hush).neither 3).0 starred_posts.hush_neither
 
 -- texts that reading refuses with 11: what SPECIFICATION 17.12 says of the answer is said of edges that lead to different
@@ -95,7 +97,7 @@ pub twice_edges : (i : ℕ) → i < 2 → T (edge_gives (record_of shortest_tick
 twice_edges i h = subst (λ (t : Text). T (edge_gives t (start_of t) 1 i)) (sym twice_text) (here i h)
   where
     twice_text : record_of shortest_tick twice ≡ twice_record
-    twice_text = ap (λ (p : Parsed). p.text) twice_read
+    twice_text = ap reader.record_of twice_read
 
     here : (i : ℕ) → i < 2 → T (edge_gives twice_record (start_of twice_record) 1 i)
     here zero l = unfold opened_states edge_gives in tt
@@ -107,19 +109,19 @@ pub twice_one_move : (i : ℕ) → i < 2
     ≡ some (after (edge (record_of shortest_tick twice) i) (start_of (record_of shortest_tick twice)))
 twice_one_move i h =
     let t = record_of shortest_tick twice in
-    let w = read_formed shortest_tick twice (ap (λ (p : Parsed). p.answer) twice_read) in
+    let w = read_formed shortest_tick twice (ap answer_of twice_read) in
     (parallel_exactly shortest_tick twice).one_move twice_accepted (start_of t) (start_stands t w) 1 i
-    (omega (arith, ap (λ (p : Parsed). p.text.edge_count) twice_read)) (twice_edges i h)
+    (omega (arith, ap (λ (r : Result Text Refusal). (reader.record_of r).edge_count) twice_read)) (twice_edges i h)
 
 -- an accepted text with two edges that give a move by one channel at the start and assign one clock: x is 1 after each
 pub woken_twice_accepted : AcceptedText shortest_tick woken_twice
 unfolding opened_states
-woken_twice_accepted = ap (λ (r : Reading). r.answer)
+woken_twice_accepted = ap answer_of
     (read_known shortest_tick woken_twice woken_twice_record woken_twice_read refl)
 
 woken_twice_text : text_of shortest_tick woken_twice ≡ woken_twice_record
 unfolding opened_states
-woken_twice_text = ap (λ (r : Reading). r.text)
+woken_twice_text = ap text_in
     (read_known shortest_tick woken_twice woken_twice_record woken_twice_read refl)
 
 -- edges 1 and 2 of it
@@ -176,25 +178,16 @@ post_consistent =
 
 -- slices that are long enough
 pub post_search_long : (keep : List ℕ) (back line : ℕ) (run : List ℕ) → Room 10 10 0 keep back line run
-    → LongEnough (search_refusal (search_outcome shortest_tick post post keep back line run).answer)
-unfolding search_refusal
-post_search_long keep back line run room =
-    no_refusal (search_refusal (search_outcome shortest_tick post post keep back line run).answer)
-    (ap search_refusal (starred_posts.post_post keep back line run room).0)
+    → LongEnough (search_outcome shortest_tick post post keep back line run).answer
+post_search_long keep back line run room = no_refusal _ 0 (starred_posts.post_post keep back line run room).0
 
 pub post_check_long : (keep : List ℕ) → 2 ≤ length keep
-    → LongEnough (check_refusal (check_outcome shortest_tick post post keep (ten_by_ten diagonal_raster)).answer)
-unfolding check_refusal
-post_check_long keep h =
-    no_refusal (check_refusal (check_outcome shortest_tick post post keep (ten_by_ten diagonal_raster)).answer)
-    (ap check_refusal (starred_posts.diagonal keep h))
+    → LongEnough (check_outcome shortest_tick post post keep (ten_by_ten diagonal_raster)).answer
+post_check_long keep h = no_refusal _ 9 (starred_posts.diagonal keep h)
 
 pub post_widest_long : (keep table : List ℕ) → 2 ≤ length keep → 29 ≤ length table
-    → LongEnough (widest_refusal (widest_outcome shortest_tick post post keep table).answer)
-unfolding widest_refusal
-post_widest_long keep table h k =
-    no_refusal (widest_refusal (widest_outcome shortest_tick post post keep table).answer)
-    (ap widest_refusal (starred_posts.post_widest keep table h k).0)
+    → LongEnough (widest_outcome shortest_tick post post keep table).answer
+post_widest_long keep table h k = no_refusal _ _ (starred_posts.post_widest keep table h k).0
 
 -- a table with a right header and a right length
 pub post_form : RightForm (states shortest_tick post) (states shortest_tick post) (ten_by_ten diagonal_raster)

@@ -1,5 +1,5 @@
 -- The outcomes of the operations where sizes, starts and safe states are known: of two systems, then of two texts' bytes.
-use Rattle.std.specs.Prelude.{◌≡◌, ◌||◌, cond}
+use Rattle.std.specs.Prelude.{◌≡◌, ◌||◌, cond, Result, Ok, ⊤}
 use Rattle.std.proofs.Common.{sym, ◌∙◌, arith, le-ltb}
 use Rattle.std.proofs.Math.Path.{ap, subst}
 use Rattle.std.proofs.Math.Bool.{Bool, true, false, not}
@@ -7,7 +7,8 @@ use mathlib.Core.List.{List, ◌++◌}
 use Prim.Native.Nat.{ℕ, ◌+◌, ◌*◌, ◌≤◌}
 use Rattle.std.proofs.Math.Dec.{ltb}
 use Rattle.std.proofs.Math.ListN.{length, drop}
-use Rattle.refusals.specs.Refusals.{keep_too_short, queue_too_short, start_not_safe, run_too_short, table_too_short, other_table, start_pair_not_set}
+use Rattle.refusals.specs.declared.Refusal.TheVariants.{KeepTooShort, QueueTooShort, StartNotSafe, RunTooShort, TableTooShort, OtherTable, StartPairNotSet}
+use Rattle.refusals.specs.Answers.{answer_of}
 use Rattle.reader_record.specs.declared.Text.{Text}
 use Rattle.systems.specs.Tests.{at, ones}
 use Rattle.systems.specs.Definitions.{Signature}
@@ -17,10 +18,9 @@ use Rattle.clocks.specs.States.{state_count, start_state}
 use Rattle.clocks.specs.Accepted.{Accepted}
 use Rattle.clocks.proofs.Contract.{system}
 use Rattle.bitmaps.specs.Packed.{bytes_for, packed}
-use Rattle.clocks_read.specs.declared.Reading.{Reading}
+use Rattle.clocks_read.specs.Reading.{text_in}
 use Rattle.pairing.specs.Channels.{unmatched}
 use Rattle.pairing.specs.Equal.{equal_when_nothing}
-use Rattle.pairing.specs.declared.Matched.TheVariants.{Equal}
 use Rattle.two_texts.specs.Two.{text_of, Compared, left_system, right_system}
 use Rattle.two_texts.proofs.Laws.{named}
 use Rattle.search.specs.Outcome as search
@@ -28,10 +28,9 @@ use Rattle.search.specs.Outcome.{search_systems}
 use Rattle.two_operations.specs.Outcome.{search_outcome, check_outcome, widest_outcome}
 use Rattle.tables_header.specs.Header.{header_bytes, table_bytes, fits}
 use Rattle.tables_rows.specs.Raster.{set_at, denoted}
-use Rattle.tables_check.specs.declared.Found.{Found}
+use Rattle.tables_check.specs.declared.FailedPair.{FailedPair}
 use Rattle.tables_check.specs.Judged.{pairs_judged}
 use Rattle.tables_whole.specs.TableFile.{table_file}
-use Rattle.tables.specs.declared.WidestAnswer.TheVariants as made
 use Rattle.tables.specs.Outcome.{Checked, check_refused, scanned, check_systems, Widened, widest_refused, widest_systems}
 use Rattle.guarantees.specs.Texts.{AcceptedText, EqualChannels}
 use Rattle.guarantees.proofs.Setting.{both, search_is, check_is, widest_is}
@@ -102,10 +101,10 @@ module _ {A : Signature} {L R : FiniteSystem A} {n m : ℕ} {K : List Bool} (F :
       past_four (ltb (length keep) (bytes_for L.size))
       (ltb back (L.size * R.size) || ltb line (L.size * R.size)) (not (safe L L.start))
       (ltb (length run) (length (search_run L R)))
-      (search.refused (keep_too_short (bytes_for L.size)) keep run)
-      (search.refused (queue_too_short (L.size * R.size)) keep run)
-      (search.refused (start_not_safe L.start) (packed L.size (safe_states L) keep) run)
-      (search.refused (run_too_short (length (search_run L R))) (packed L.size (safe_states L) keep) run)
+      (search.refused (KeepTooShort (bytes_for L.size)) keep run)
+      (search.refused (QueueTooShort (L.size * R.size)) keep run)
+      (search.refused (StartNotSafe L.start) (packed L.size (safe_states L) keep) run)
+      (search.refused (RunTooShort (length (search_run L R))) (packed L.size (safe_states L) keep) run)
       (search.found (search_run L R) (packed L.size (safe_states L) keep) run)
       (keep_long keep room.keep_room)
       (either_false (ltb back (L.size * R.size)) (ltb line (L.size * R.size)) (pairs_long back room.back_room)
@@ -118,70 +117,70 @@ module _ {A : Signature} {L R : FiniteSystem A} {n m : ℕ} {K : List Bool} (F :
 
   search_start_refused : at K 0 ≡ false → (keep : List ℕ) (back line : ℕ) (run : List ℕ)
       → Room n m 0 keep back line run
-      → search_systems L R keep back line run ≡ search.refused (start_not_safe 0) (packed n K keep) run
+      → search_systems L R keep back line run ≡ search.refused (StartNotSafe 0) (packed n K keep) run
   unfolding search_systems
   search_start_refused unsafe_start keep back line run room =
       at_third (ltb (length keep) (bytes_for L.size))
       (ltb back (L.size * R.size) || ltb line (L.size * R.size)) (not (safe L L.start))
-      (search.refused (keep_too_short (bytes_for L.size)) keep run)
-      (search.refused (queue_too_short (L.size * R.size)) keep run)
-      (search.refused (start_not_safe L.start) (packed L.size (safe_states L) keep) run)
+      (search.refused (KeepTooShort (bytes_for L.size)) keep run)
+      (search.refused (QueueTooShort (L.size * R.size)) keep run)
+      (search.refused (StartNotSafe L.start) (packed L.size (safe_states L) keep) run)
       (cond (ltb (length run) (length (search_run L R)))
-      (search.refused (run_too_short (length (search_run L R))) (packed L.size (safe_states L) keep) run)
+      (search.refused (RunTooShort (length (search_run L R))) (packed L.size (safe_states L) keep) run)
       (search.found (search_run L R) (packed L.size (safe_states L) keep) run))
       (keep_long keep room.keep_room)
       (either_false (ltb back (L.size * R.size)) (ltb line (L.size * R.size)) (pairs_long back room.back_room)
       (pairs_long line room.line_room))
       (start_is false unsafe_start)
-      ∙ ap (λ (i : ℕ). search.refused (start_not_safe i) (packed L.size (safe_states L) keep) run) F.start
-      ∙ ap (λ (k : List ℕ). search.refused (start_not_safe 0) k run) (kept_is keep)
+      ∙ ap (λ (i : ℕ). search.refused (StartNotSafe i) (packed L.size (safe_states L) keep) run) F.start
+      ∙ ap (λ (k : List ℕ). search.refused (StartNotSafe 0) k run) (kept_is keep)
 
   widest_start_refused : at K 0 ≡ false → (keep table : List ℕ) → bytes_for n ≤ length keep
       → table_bytes m n ≤ length table
-      → widest_systems L R keep table ≡ widest_refused (start_not_safe 0) (packed n K keep) table
+      → widest_systems L R keep table ≡ widest_refused (StartNotSafe 0) (packed n K keep) table
   unfolding widest_systems
   widest_start_refused unsafe_start keep table h k =
       at_third (ltb (length keep) (bytes_for L.size)) (ltb (length table) (table_bytes R.size L.size))
       (not (safe L L.start))
-      (widest_refused (keep_too_short (bytes_for L.size)) keep table)
-      (widest_refused (table_too_short (table_bytes R.size L.size)) keep table)
-      (widest_refused (start_not_safe L.start) (packed L.size (safe_states L) keep) table) _
+      (widest_refused (KeepTooShort (bytes_for L.size)) keep table)
+      (widest_refused (TableTooShort (table_bytes R.size L.size)) keep table)
+      (widest_refused (StartNotSafe L.start) (packed L.size (safe_states L) keep) table) _
       (keep_long keep h) (table_long table k) (start_is false unsafe_start)
-      ∙ ap (λ (i : ℕ). widest_refused (start_not_safe i) (packed L.size (safe_states L) keep) table) F.start
-      ∙ ap (λ (k : List ℕ). widest_refused (start_not_safe 0) k table) (kept_is keep)
+      ∙ ap (λ (i : ℕ). widest_refused (StartNotSafe i) (packed L.size (safe_states L) keep) table) F.start
+      ∙ ap (λ (k : List ℕ). widest_refused (StartNotSafe 0) k table) (kept_is keep)
 
   check_start_refused : at K 0 ≡ false → (keep table : List ℕ) → bytes_for n ≤ length keep
       → fits m n table ≡ true
-      → check_systems L R keep table ≡ check_refused (start_not_safe 0) (packed n K keep)
+      → check_systems L R keep table ≡ check_refused (StartNotSafe 0) (packed n K keep)
   unfolding check_systems
   check_start_refused unsafe_start keep table h form =
       at_third (ltb (length keep) (bytes_for L.size)) (not (fits R.size L.size table))
       (not (safe L L.start))
-      (check_refused (keep_too_short (bytes_for L.size)) keep) (check_refused other_table keep)
-      (check_refused (start_not_safe L.start) (packed L.size (safe_states L) keep)) _
+      (check_refused (KeepTooShort (bytes_for L.size)) keep) (check_refused OtherTable keep)
+      (check_refused (StartNotSafe L.start) (packed L.size (safe_states L) keep)) _
       (keep_long keep h) (form_is table form) (start_is false unsafe_start)
-      ∙ ap (λ (i : ℕ). check_refused (start_not_safe i) (packed L.size (safe_states L) keep)) F.start
-      ∙ ap (check_refused (start_not_safe 0)) (kept_is keep)
+      ∙ ap (λ (i : ℕ). check_refused (StartNotSafe i) (packed L.size (safe_states L) keep)) F.start
+      ∙ ap (check_refused (StartNotSafe 0)) (kept_is keep)
 
   widest_found : (X : List Bool) → at K 0 ≡ true → widest L R ≡ X → (keep table : List ℕ)
       → bytes_for n ≤ length keep → table_bytes m n ≤ length table
       → widest_systems L R keep table ≡ record {
-        answer = made.Made (ones X) (at X 0);
+        answer = Ok (record { count = ones X; start = at X 0 });
         keep = packed n K keep;
         table = table_file n m X ++ drop (table_bytes m n) table;
       }
   unfolding widest_systems
   widest_found X safe_start e keep table h k =
       let result : ℕ → ℕ → ℕ → List Bool → List ℕ → Widened = λ p i j Y kept. record {
-        answer = made.Made (ones Y) (at Y p);
+        answer = Ok (record { count = ones Y; start = at Y p });
         keep = kept;
         table = table_file i j Y ++ drop (table_bytes j i) table;
       } in
       past_three (ltb (length keep) (bytes_for L.size)) (ltb (length table) (table_bytes R.size L.size))
       (not (safe L L.start))
-      (widest_refused (keep_too_short (bytes_for L.size)) keep table)
-      (widest_refused (table_too_short (table_bytes R.size L.size)) keep table)
-      (widest_refused (start_not_safe L.start) (packed L.size (safe_states L) keep) table)
+      (widest_refused (KeepTooShort (bytes_for L.size)) keep table)
+      (widest_refused (TableTooShort (table_bytes R.size L.size)) keep table)
+      (widest_refused (StartNotSafe L.start) (packed L.size (safe_states L) keep) table)
       (result (L.start * R.size + R.start) L.size R.size (widest L R) (packed L.size (safe_states L) keep))
       (keep_long keep h)
       (table_long table k)
@@ -194,7 +193,7 @@ module _ {A : Signature} {L R : FiniteSystem A} {n m : ℕ} {K : List Bool} (F :
       ∙ ap (result 0 n m X) (kept_is keep)
 
   -- the table is one of n rows and m columns with the raster k, and it has the start pair
-  check_found : (table k : List ℕ) (f : Found) → at K 0 ≡ true → fits m n table ≡ true
+  check_found : (table k : List ℕ) (f : Result ⊤ FailedPair) → at K 0 ≡ true → fits m n table ≡ true
       → drop (header_bytes m n) table ≡ k
       → set_at m k 0 0 ≡ true → pairs_judged L R (set_at m k) ≡ f → (keep : List ℕ) → bytes_for n ≤ length keep
       → check_systems L R keep table ≡ record { answer = scanned m (ones (denoted n m k)) f; keep = packed n K keep }
@@ -203,15 +202,15 @@ module _ {A : Signature} {L R : FiniteSystem A} {n m : ℕ} {K : List Bool} (F :
       let behind : drop (header_bytes R.size L.size) table ≡ k =
       ap (λ (i : ℕ). drop (header_bytes R.size i) table) F.size
       ∙ ap (λ (i : ℕ). drop (header_bytes i n) table) F.right_size ∙ e in
-      let result : ℕ → ℕ → List ℕ → Found → List ℕ
+      let result : ℕ → ℕ → List ℕ → Result ⊤ FailedPair → List ℕ
       → Checked = λ a b r g kept. record { answer = scanned b (ones (denoted a b r)) g; keep = kept } in
       let raster = drop (header_bytes R.size L.size) table in
       past_four (ltb (length keep) (bytes_for L.size)) (not (fits R.size L.size table))
       (not (safe L L.start)) (not (set_at R.size raster L.start R.start))
-      (check_refused (keep_too_short (bytes_for L.size)) keep)
-      (check_refused other_table keep)
-      (check_refused (start_not_safe L.start) (packed L.size (safe_states L) keep))
-      (check_refused (start_pair_not_set L.start R.start) (packed L.size (safe_states L) keep))
+      (check_refused (KeepTooShort (bytes_for L.size)) keep)
+      (check_refused OtherTable keep)
+      (check_refused (StartNotSafe L.start) (packed L.size (safe_states L) keep))
+      (check_refused (StartPairNotSet L.start R.start) (packed L.size (safe_states L) keep))
       (result L.size R.size raster (pairs_judged L R (set_at R.size raster)) (packed L.size (safe_states L) keep))
       (keep_long keep h)
       (form_is table form)
@@ -224,29 +223,29 @@ module _ {A : Signature} {L R : FiniteSystem A} {n m : ℕ} {K : List Bool} (F :
       (packed L.size (safe_states L) keep)) behind
       ∙ ap (λ (i : ℕ). result L.size i k (pairs_judged L R (set_at i k)) (packed L.size (safe_states L) keep)) F.right_size
       ∙ ap (λ (i : ℕ). result i m k (pairs_judged L R (set_at m k)) (packed L.size (safe_states L) keep)) F.size
-      ∙ ap (λ (g : Found). result n m k g (packed L.size (safe_states L) keep)) j
+      ∙ ap (λ (g : Result ⊤ FailedPair). result n m k g (packed L.size (safe_states L) keep)) j
       ∙ ap (result n m k f) (kept_is keep)
 
 -- two known texts whose channels are equal
 module _ {s u : List ℕ} {l r : Text} {n m : ℕ} {K J : List Bool} (x : Known s l n K) (y : Known u r m J)
-    (e : unmatched s l u r ≡ Equal) where
+    (e : unmatched s l u r ≡ Ok tt) where
   pub left_accepted : AcceptedText shortest_tick s
-  left_accepted = ap (λ (o : Reading). o.answer) x.read
+  left_accepted = ap answer_of x.read
 
   pub right_accepted : AcceptedText shortest_tick u
-  right_accepted = ap (λ (o : Reading). o.answer) y.read
+  right_accepted = ap answer_of y.read
 
   left_text : l ≡ text_of shortest_tick s
-  left_text = ap (λ (o : Reading). o.text) (sym x.read)
+  left_text = ap text_in (sym x.read)
 
   right_text : r ≡ text_of shortest_tick u
-  right_text = ap (λ (o : Reading). o.text) (sym y.read)
+  right_text = ap text_in (sym y.read)
 
   pub channels_equal : EqualChannels shortest_tick s u
   channels_equal = equal_when_nothing s (text_of shortest_tick s) u (text_of shortest_tick u)
       (named shortest_tick s left_accepted) (named shortest_tick u right_accepted)
-      (subst (λ (t : Text). unmatched s t u (text_of shortest_tick u) ≡ Equal) left_text
-      (subst (λ (t : Text). unmatched s l u t ≡ Equal) right_text e))
+      (subst (λ (t : Text). unmatched s t u (text_of shortest_tick u) ≡ Ok tt) left_text
+      (subst (λ (t : Text). unmatched s l u t ≡ Ok tt) right_text e))
 
   abbrev pub compares : Compared shortest_tick s u
   compares = both shortest_tick s u left_accepted right_accepted channels_equal
@@ -274,20 +273,20 @@ module _ {s u : List ℕ} {l r : Text} {n m : ℕ} {K J : List Bool} (x : Known 
   -- the left's start is not safe
   pub search_unsafe : at K 0 ≡ false → (keep : List ℕ) (back line : ℕ) (run : List ℕ)
       → Room n m 0 keep back line run
-      → search_outcome shortest_tick s u keep back line run ≡ search.refused (start_not_safe 0) (packed n K keep) run
+      → search_outcome shortest_tick s u keep back line run ≡ search.refused (StartNotSafe 0) (packed n K keep) run
   search_unsafe unsafe keep back line run room =
       search_is shortest_tick s u left_accepted right_accepted channels_equal keep back line run
       ∙ search_start_refused facts unsafe keep back line run room
 
   pub check_unsafe : at K 0 ≡ false → (keep table : List ℕ) → bytes_for n ≤ length keep → fits m n table ≡ true
-      → check_outcome shortest_tick s u keep table ≡ check_refused (start_not_safe 0) (packed n K keep)
+      → check_outcome shortest_tick s u keep table ≡ check_refused (StartNotSafe 0) (packed n K keep)
   check_unsafe unsafe keep table h form =
       check_is shortest_tick s u left_accepted right_accepted channels_equal keep table
       ∙ check_start_refused facts unsafe keep table h form
 
   pub widest_unsafe : at K 0 ≡ false → (keep table : List ℕ) → bytes_for n ≤ length keep
       → table_bytes m n ≤ length table
-      → widest_outcome shortest_tick s u keep table ≡ widest_refused (start_not_safe 0) (packed n K keep) table
+      → widest_outcome shortest_tick s u keep table ≡ widest_refused (StartNotSafe 0) (packed n K keep) table
   widest_unsafe unsafe keep table h k =
       widest_is shortest_tick s u left_accepted right_accepted channels_equal keep table
       ∙ widest_start_refused facts unsafe keep table h k
@@ -306,7 +305,7 @@ module _ {s u : List ℕ} {l r : Text} {n m : ℕ} {K J : List Bool} (x : Known 
       → widest (left_system shortest_tick compares) (right_system shortest_tick compares) ≡ X
       → (keep table : List ℕ) → bytes_for n ≤ length keep → table_bytes m n ≤ length table
       → widest_outcome shortest_tick s u keep table ≡ record {
-        answer = made.Made (ones X) (at X 0);
+        answer = Ok (record { count = ones X; start = at X 0 });
         keep = packed n K keep;
         table = table_file n m X ++ drop (table_bytes m n) table;
       }
@@ -314,7 +313,7 @@ module _ {s u : List ℕ} {l r : Text} {n m : ℕ} {K J : List Bool} (x : Known 
       widest_is shortest_tick s u left_accepted right_accepted channels_equal keep table
       ∙ widest_found facts X safe_start is keep table h k
 
-  pub checked : at K 0 ≡ true → (table k : List ℕ) (f : Found) → fits m n table ≡ true
+  pub checked : at K 0 ≡ true → (table k : List ℕ) (f : Result ⊤ FailedPair) → fits m n table ≡ true
       → drop (header_bytes m n) table ≡ k → set_at m k 0 0 ≡ true
       → ((p : Pair s u l r) → pairs_judged (left_of p) (right_of p) (set_at m k) ≡ f)
       → (keep : List ℕ) → bytes_for n ≤ length keep

@@ -1,16 +1,15 @@
 -- Nine of the texts, read and judged: accepted, and the safe states of each, computed.
-use Rattle.std.specs.Prelude.{◌≡◌, refl, Bool, true, false, List, [], ◌∷◌, ℕ}
+use Rattle.std.specs.Prelude.{◌≡◌, refl, Bool, true, false, List, [], ◌∷◌, ℕ, Result, Ok, ⊤}
 use Rattle.std.proofs.Common.{sym, ap, ◌∙◌}
 use Rattle.systems.specs.Finite.{safe_states}
 use Rattle.systems.proofs.Compute.{safe_fast, safe_fast_same}
 use Rattle.reader_record.specs.declared.Text.{Text}
-use Rattle.refusals.specs.declared.Verdict.TheVariants as verdict
-use Rattle.reader.specs.declared.Parsed.{Parsed}
+use Rattle.refusals.specs.declared.Refusal.{Refusal}
 use Rattle.reader.specs.Reading.{read_text}
 use Rattle.reader_examples.specs.Texts.{post, rearm, woken, overridden, early, strict, hush, idle, twice}
 use Rattle.reader_examples.specs.Records.{post_record, rearm_record, woken_record, overridden_record, early_record, strict_record, hush_record, idle_record, twice_record}
 use Rattle.reader_examples.specs.Read.{post_read, rearm_read, woken_read, overridden_read, early_read, strict_read, hush_read, idle_read, twice_read}
-use Rattle.clocks.specs.declared.Judged.TheVariants.{Clean}
+use Rattle.clocks.specs.declared.Flaw.{Flaw}
 use Rattle.clocks.specs.Accepted.{Accepted}
 use Rattle.clocks.specs.States.{state_count, start_state, judgement}
 use Rattle.clocks.proofs.Contract.{system}
@@ -20,14 +19,14 @@ use Rattle.guarantees_starred.proofs.Opened.{opened}
 use Rattle.limits.specs.Limits.{shortest_tick}
 
 -- what reading gives for a text with the record t
-abbrev pub reading_of : Text → Reading
-reading_of t = record { answer = verdict.Accepted; text = t; states = state_count t }
+abbrev pub reading_of : Text → Result Reading Refusal
+reading_of t = Ok (record { text = t; states = state_count t })
 
 pub read_known : (period : ℕ) (s : List ℕ) (t : Text)
-    → read_text period s ≡ record { answer = verdict.Accepted; text = t } → judgement t ≡ Clean
+    → read_text period s ≡ Ok t → judgement t ≡ Ok tt
     → read_outcome period s ≡ reading_of t
 unfolding read_outcome parsed_reading judged_reading
-read_known period s t e c = ap (λ (p : Parsed). parsed_reading p.answer p.text) e ∙ rw c
+read_known period s t e c = ap parsed_reading e ∙ ap (λ (j : Result ⊤ Flaw). judged_reading j t) c
 
 -- what is computed of a text at tick length 1: it is read and accepted, the number of its states, that it starts in 0,
 -- its safe states
@@ -39,8 +38,8 @@ pub record Known (s : List ℕ) (t : Text) (n : ℕ) (K : List Bool) : Type 0 wh
 
 known :
     {s : List ℕ} {t : Text} {n : ℕ} {K : List Bool} → read_text shortest_tick s
-    ≡ record { answer = verdict.Accepted; text = t }
-    → judgement t ≡ Clean → state_count t ≡ n → start_state t ≡ 0 → ((a : Accepted t) → safe_fast (system t a) ≡ K)
+    ≡ Ok t
+    → judgement t ≡ Ok tt → state_count t ≡ n → start_state t ≡ 0 → ((a : Accepted t) → safe_fast (system t a) ≡ K)
     → Known s t n K
 known {s} {t} read clean size start safe = record {
   read = read_known shortest_tick s t read clean;

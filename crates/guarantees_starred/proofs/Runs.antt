@@ -1,6 +1,6 @@
 -- Two of the seven texts together: their systems as the operations
 -- compute on them, and the runs, tables and checks computed.
-use Rattle.std.specs.Prelude.{◌≡◌, refl, List, [], ◌∷◌, ℕ}
+use Rattle.std.specs.Prelude.{◌≡◌, refl, List, [], ◌∷◌, ℕ, Ok}
 use Rattle.systems.specs.Definitions.{tick, Input}
 use Rattle.systems.specs.Finite.{FiniteSystem, search_run}
 use Rattle.systems.specs.Renumbered.{renumbered}
@@ -11,7 +11,6 @@ use Rattle.reader_examples.specs.Records.{post_record, rearm_record, woken_recor
 use Rattle.clocks.specs.Accepted.{Accepted}
 use Rattle.clocks.proofs.Contract.{signature, system}
 use Rattle.pairing.specs.Channels.{unmatched, right_step}
-use Rattle.pairing.specs.declared.Matched.TheVariants.{Equal}
 use Rattle.guarantees_starred.proofs.Opened.{opened_states, opened_pairing, opened}
 use Rattle.guarantees_starred.proofs.Posts.{post_keep, post_known, rearm_keep, rearm_known, early_keep, early_known, strict_keep, strict_known, idle_keep, idle_known, twice_known, woken_known, overridden_keep, overridden_known}
 
@@ -28,71 +27,71 @@ abbrev pub right_of : {s u : List ℕ} {l r : Text} → Pair s u l r → FiniteS
 right_of {s} {u} {l} {r} p = renumbered (right_step s l u r) p.inputs (system r p.right_text)
 
 -- the channels are equal
-pub post_post_equal : unmatched post post_record post post_record ≡ Equal
+pub post_post_equal : unmatched post post_record post post_record ≡ Ok tt
 unfolding opened_states opened_pairing
 post_post_equal = refl
 
-pub early_post_equal : unmatched early early_record post post_record ≡ Equal
+pub early_post_equal : unmatched early early_record post post_record ≡ Ok tt
 unfolding opened_states opened_pairing
 early_post_equal = refl
 
-pub idle_post_equal : unmatched idle idle_record post post_record ≡ Equal
+pub idle_post_equal : unmatched idle idle_record post post_record ≡ Ok tt
 unfolding opened_states opened_pairing
 idle_post_equal = refl
 
-pub post_idle_equal : unmatched post post_record idle idle_record ≡ Equal
+pub post_idle_equal : unmatched post post_record idle idle_record ≡ Ok tt
 unfolding opened_states opened_pairing
 post_idle_equal = refl
 
-pub post_hush_equal : unmatched post post_record hush hush_record ≡ Equal
+pub post_hush_equal : unmatched post post_record hush hush_record ≡ Ok tt
 unfolding opened_states opened_pairing
 post_hush_equal = refl
 
-pub rearm_post_equal : unmatched rearm rearm_record post post_record ≡ Equal
+pub rearm_post_equal : unmatched rearm rearm_record post post_record ≡ Ok tt
 unfolding opened_states opened_pairing
 rearm_post_equal = refl
 
-pub hush_post_equal : unmatched hush hush_record post post_record ≡ Equal
+pub hush_post_equal : unmatched hush hush_record post post_record ≡ Ok tt
 unfolding opened_states opened_pairing
 hush_post_equal = refl
 
-pub strict_post_equal : unmatched strict strict_record post post_record ≡ Equal
+pub strict_post_equal : unmatched strict strict_record post post_record ≡ Ok tt
 unfolding opened_states opened_pairing
 strict_post_equal = refl
 
-pub post_strict_equal : unmatched post post_record strict strict_record ≡ Equal
+pub post_strict_equal : unmatched post post_record strict strict_record ≡ Ok tt
 unfolding opened_states opened_pairing
 post_strict_equal = refl
 
-pub twice_post_equal : unmatched twice twice_record post post_record ≡ Equal
+pub twice_post_equal : unmatched twice twice_record post post_record ≡ Ok tt
 unfolding opened_states opened_pairing
 twice_post_equal = refl
 
-pub post_twice_equal : unmatched post post_record twice twice_record ≡ Equal
+pub post_twice_equal : unmatched post post_record twice twice_record ≡ Ok tt
 unfolding opened_states opened_pairing
 post_twice_equal = refl
 
-pub twice_twice_equal : unmatched twice twice_record twice twice_record ≡ Equal
+pub twice_twice_equal : unmatched twice twice_record twice twice_record ≡ Ok tt
 unfolding opened_states opened_pairing
 twice_twice_equal = refl
 
-pub woken_post_equal : unmatched woken woken_record post post_record ≡ Equal
+pub woken_post_equal : unmatched woken woken_record post post_record ≡ Ok tt
 unfolding opened_states opened_pairing
 woken_post_equal = refl
 
-pub post_woken_equal : unmatched post post_record woken woken_record ≡ Equal
+pub post_woken_equal : unmatched post post_record woken woken_record ≡ Ok tt
 unfolding opened_states opened_pairing
 post_woken_equal = refl
 
-pub overridden_woken_equal : unmatched overridden overridden_record woken woken_record ≡ Equal
+pub overridden_woken_equal : unmatched overridden overridden_record woken woken_record ≡ Ok tt
 unfolding opened_states opened_pairing
 overridden_woken_equal = refl
 
-pub woken_overridden_equal : unmatched woken woken_record overridden overridden_record ≡ Equal
+pub woken_overridden_equal : unmatched woken woken_record overridden overridden_record ≡ Ok tt
 unfolding opened_states opened_pairing
 woken_overridden_equal = refl
 
-pub post_overridden_equal : unmatched post post_record overridden overridden_record ≡ Equal
+pub post_overridden_equal : unmatched post post_record overridden overridden_record ≡ Ok tt
 unfolding opened_states opened_pairing
 post_overridden_equal = refl
 

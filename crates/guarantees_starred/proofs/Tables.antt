@@ -1,5 +1,5 @@
 -- The tables of the posts: the widest ones, and the checks of two given ones, computed.
-use Rattle.std.specs.Prelude.{◌≡◌, refl, Bool, true, false, not, ◌&&◌, cond, List, [], ◌∷◌, ℕ, suc}
+use Rattle.std.specs.Prelude.{◌≡◌, refl, Bool, true, false, not, ◌&&◌, cond, List, [], ◌∷◌, ℕ, suc, Result, Ok, Err, ⊤}
 use Rattle.std.proofs.Math.Path.{ap}
 use Rattle.systems.specs.Tests.{at, ones, table, sieve, least}
 use Rattle.systems.specs.Definitions.{tick, Signature}
@@ -10,16 +10,16 @@ use Rattle.reader_examples.specs.Records.{post_record, rearm_record, strict_reco
 use Rattle.bitmaps.specs.Bits.{bit_at, byte_of, tab_from}
 use Rattle.tables_check.specs.Fault.{step, step_fault, picked, row_from, table_from}
 use Rattle.tables_check.specs.declared.Fault.{Fault}
-use Rattle.tables_check.specs.declared.Fault.TheVariants.{Fine, NotAllowed}
-use Rattle.tables_check.specs.declared.Found.{Found}
-use Rattle.tables_check.specs.declared.Found.TheVariants.{Passed, BrokenAt}
+use Rattle.tables_check.specs.declared.Fault.TheVariants.{NotAllowed}
+use Rattle.tables_check.specs.declared.FailedPair.{FailedPair}
+use Rattle.tables_check.specs.declared.FailedPair.TheVariants.{BrokenAt}
 use Rattle.tables_check.specs.Judged.{breaks, least_broken, pair_fault, pairs_judged}
 use Rattle.byte_slices.specs.Decimal.{digit, digits, decimal}
 use Rattle.tables_header.specs.Header.{header, header_bytes, table_bytes, begins, fits}
 use Rattle.tables_rows.specs.Raster.{set_at, denoted, in_row, raster}
 use Rattle.tables_whole.specs.TableFile.{table_file}
-use Rattle.tables.specs.declared.WidestAnswer.{WidestAnswer}
-use Rattle.tables.specs.declared.WidestAnswer.TheVariants as made
+use Rattle.refusals.specs.declared.Refusal.{Refusal}
+use Rattle.tables_widest.specs.declared.WidestTable.{WidestTable}
 use Rattle.guarantees_starred.specs.Sentences.{widest_raster, diagonal_raster, start_raster, ten_by_ten}
 use Rattle.guarantees_starred.proofs.Opened.{opened}
 use Rattle.guarantees_starred.proofs.Posts.{post_keep, post_known, rearm_keep, rearm_known, strict_keep, strict_known, twice_known}
@@ -82,23 +82,26 @@ unfolding opened_file
 strict_file_wide = refl
 
 -- what is answered beside a table: how many pairs it has, and whether the start pair is one
-abbrev pub pairs_of : List Bool → WidestAnswer
-pairs_of X = made.Made (ones X) (at X 0)
+abbrev pub made : ℕ → Bool → Result WidestTable Refusal
+made count start = Ok (record { count = count; start = start })
+
+abbrev pub pairs_of : List Bool → Result WidestTable Refusal
+pairs_of X = made (ones X) (at X 0)
 
 -- Rearm against Post: 25 pairs, and the start pair is not one
 pub rearm_pairs : (p : Pair rearm post rearm_record post_record) → pairs_of (widest (left_of p) (right_of p))
-    ≡ made.Made 25 false
+    ≡ made 25 false
 unfolding opened
 rearm_pairs p = ap pairs_of (widest_by (left_of p) (right_of p) rearm_keep (rearm_known.safe p.left_text))
 
 -- Strict against Post, and Post against Strict: 34 pairs, and the start pair is one
 pub strict_post_pairs : (p : Pair strict post strict_record post_record) → pairs_of (widest (left_of p) (right_of p))
-    ≡ made.Made 34 true
+    ≡ made 34 true
 unfolding opened
 strict_post_pairs p = ap pairs_of (widest_by (left_of p) (right_of p) strict_keep (strict_known.safe p.left_text))
 
 pub post_strict_pairs : (p : Pair post strict post_record strict_record) → pairs_of (widest (left_of p) (right_of p))
-    ≡ made.Made 34 true
+    ≡ made 34 true
 unfolding opened
 post_strict_pairs p = ap pairs_of (widest_by (left_of p) (right_of p) post_keep (post_known.safe p.left_text))
 
@@ -107,12 +110,12 @@ module _ {A : Signature} (L R : FiniteSystem A) (X : ℕ → ℕ → Bool) where
   unfoldable pub broken_with : List Bool → ℕ → ℕ → ℕ → Bool
   broken_with K s t c = not (step_ok A (λ s c. if_in K (L.next s c)) R.next X s t c)
 
-  unfoldable pub fault_with : List Bool → ℕ → ℕ → Fault
+  unfoldable pub fault_with : List Bool → ℕ → ℕ → Result ⊤ Fault
   fault_with K s t =
       let broken = step_fault (suc A.channels) (least (broken_with K s t) 0 (suc A.channels)) in
-      cond (X s t) (cond (at K s && R.holds t) broken NotAllowed) Fine
+      cond (X s t) (cond (at K s && R.holds t) broken (Err NotAllowed)) (Ok tt)
 
-  unfoldable pub judged_with : List Bool → Found
+  unfoldable pub judged_with : List Bool → Result ⊤ FailedPair
   judged_with K = table_from (fault_with K) R.size L.size 0
 
   pub judged_by : (K : List Bool) → safe_states L ≡ K → pairs_judged L R X ≡ judged_with K
@@ -124,13 +127,13 @@ unfolding opened broken_with fault_with judged_with step_fault picked row_from t
 opened_check = tt
 
 pub diagonal_judged : (p : Pair post post post_record post_record)
-    → pairs_judged (left_of p) (right_of p) (set_at 10 diagonal_raster) ≡ Passed
+    → pairs_judged (left_of p) (right_of p) (set_at 10 diagonal_raster) ≡ Ok tt
 unfolding opened_check
 diagonal_judged p = judged_by (left_of p) (right_of p) (set_at 10 diagonal_raster) post_keep (post_known.safe p.left_text)
 
 -- the tick breaks a rule at the start pair
-abbrev pub start_fault : Found
-start_fault = BrokenAt (step tick) 0 0
+abbrev pub start_fault : Result ⊤ FailedPair
+start_fault = Err (BrokenAt (step tick) 0 0)
 
 pub start_judged : (p : Pair post post post_record post_record)
     → pairs_judged (left_of p) (right_of p) (set_at 10 start_raster) ≡ start_fault

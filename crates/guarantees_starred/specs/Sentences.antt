@@ -1,20 +1,19 @@
 -- The starred posts, that is the examples that are proved: what SPECIFICATION 16.2 to 16.6 and 16.8 to 16.10 say of the
 -- ten texts and of two more, at tick length 1 but for Sheet. Definitions only: proofs/Starred.antt proves them
 -- (SPECIFICATION 17.4).
-use Rattle.std.specs.Prelude.{◌≡◌, true, false, List, [], ◌∷◌, ◌++◌, ℕ, ◌*◌, ◌≤◌, length, drop}
+use Rattle.std.specs.Prelude.{◌≡◌, true, false, List, [], ◌∷◌, ◌++◌, ℕ, ◌*◌, ◌≤◌, length, drop, Ok, Err}
 use Rattle.reader_examples.specs.Texts.{post, rearm, early, strict, loose, sheet, hush, idle, spare, twice, stay_or_go, reset_or_not, woken, overridden, too_late, late_or_not}
-use Rattle.refusals.specs.declared.Verdict.TheVariants as verdict
+use Rattle.refusals.specs.declared.File.TheVariants.{Left}
+use Rattle.refusals.specs.declared.Refusal.TheVariants.{ConstantTooLarge, InputWithoutMove, TwoEdges, StartNotSafe, RuleBroken, OutputBesideTick, NeitherPossible, TickOutOfRange}
+use Rattle.refusals.specs.Answers.{answer_of}
 use Rattle.systems.specs.Definitions.{tick}
 use Rattle.reachable.specs.Check.{neither}
 use Rattle.clocks.specs.States.{input, next}
 use Rattle.bitmaps.specs.Packed.{bytes_for}
-use Rattle.clocks_read.specs.Reading.{read_outcome}
-use Rattle.search.specs.declared.SearchAnswer.TheVariants.{Found, Refused}
+use Rattle.clocks_read.specs.Reading.{read_outcome, text_in, states_in}
 use Rattle.byte_slices.specs.Decimal.{ascii}
-use Rattle.tables.specs.declared.CheckAnswer.TheVariants as checked
-use Rattle.tables.specs.declared.WidestAnswer.TheVariants as made
+use Rattle.tables_check.specs.Fault.{step}
 use Rattle.two_operations.specs.Outcome.{search_outcome, check_outcome, widest_outcome}
-use Rattle.safe_states.specs.declared.SafeAnswer.TheVariants as counted
 use Rattle.safe_states.specs.Outcome.{safe_outcome}
 use Rattle.implementation_check.specs.Outcome.{implementation_outcome}
 use Rattle.demands.specs.Words.{RightForm}
@@ -32,7 +31,7 @@ pub record Room (n m steps : ℕ) (keep : List ℕ) (back line : ℕ) (run : Lis
 -- slices are that are long enough
 abbrev pub Searches : List ℕ → List ℕ → ℕ → ℕ → ℕ → List ℕ → Type 0
 Searches s u n m k w = (keep : List ℕ) (back line : ℕ) (run : List ℕ) → Room n m k keep back line run
-    → ((search_outcome shortest_tick s u keep back line run).answer ≡ Found k)
+    → ((search_outcome shortest_tick s u keep back line run).answer ≡ Ok k)
     × ((search_outcome shortest_tick s u keep back line run).run ≡ w ++ drop k run)
 
 -- the raster of the widest table of Post against Post (SPECIFICATION 16.4)
@@ -65,34 +64,34 @@ hush_kept keep = 0x07 ∷ 0xC0 ∷ drop 2 keep
 -- 16.4)
 abbrev pub WidensAsPost : List ℕ → List ℕ → Type 0
 WidensAsPost s u = (keep table : List ℕ) → 2 ≤ length keep → 29 ≤ length table
-    → ((widest_outcome shortest_tick s u keep table).answer ≡ made.Made 29 true)
+    → ((widest_outcome shortest_tick s u keep table).answer ≡ Ok (record { count = 29; start = true }))
     × ((widest_outcome shortest_tick s u keep table).table ≡ ten_by_ten widest_raster ++ drop 29 table)
 
 -- the examples, one field each
 pub record Starred : Type 0 where
   -- Post: its states, and how many are safe, the start among them (SPECIFICATION 16.2)
-  pub post_states : (read_outcome shortest_tick post).states ≡ 10
+  pub post_states : states_in (read_outcome shortest_tick post) ≡ 10
   pub post_safe : (keep : List ℕ) → 2 ≤ length keep → (safe_outcome shortest_tick post keep).answer
-      ≡ counted.Found 9 true
+      ≡ Ok (record { count = 9; start = true })
   -- Strict: the same, with M as it is written (SPECIFICATION 16.2)
-  pub strict_states : (read_outcome shortest_tick strict).states ≡ 12
+  pub strict_states : states_in (read_outcome shortest_tick strict) ≡ 12
   pub strict_safe : (keep : List ℕ) → 2 ≤ length keep → (safe_outcome shortest_tick strict keep).answer
-      ≡ counted.Found 10 true
+      ≡ Ok (record { count = 10; start = true })
   -- Hush: how many states are safe, the start not among them (SPECIFICATION 16.3)
   pub hush_safe : (keep : List ℕ) → 2 ≤ length keep → (safe_outcome shortest_tick hush keep).answer
-      ≡ counted.Found 5 false
+      ≡ Ok (record { count = 5; start = false })
   -- 17 for it as the left of all three operations: keep is written, the run and the table are as they came
   -- (SPECIFICATION 13.5, 16.3)
   pub hush_search : (keep : List ℕ) (back line : ℕ) (run : List ℕ) → Room 10 10 0 keep back line run
       → search_outcome shortest_tick hush post keep back line run
-      ≡ record { answer = Refused (record { code = 17; file = 1; p = 0; q = 0 }); keep = hush_kept keep; run = run }
+      ≡ record { answer = Err (StartNotSafe 0); keep = hush_kept keep; run = run }
   pub hush_check : (keep table : List ℕ) → 2 ≤ length keep → RightForm 10 10 table
       → check_outcome shortest_tick hush post keep table
-      ≡ record { answer = checked.Refused (record { code = 17; file = 1; p = 0; q = 0 }); keep = hush_kept keep }
+      ≡ record { answer = Err (StartNotSafe 0); keep = hush_kept keep }
   pub hush_widest : (keep table : List ℕ) → 2 ≤ length keep → 29 ≤ length table
       → widest_outcome shortest_tick hush post keep table
       ≡ record {
-        answer = made.Refused (record { code = 17; file = 1; p = 0; q = 0 });
+        answer = Err (StartNotSafe 0);
         keep = hush_kept keep;
         table = table;
       }
@@ -102,14 +101,14 @@ pub record Starred : Type 0 where
   pub post_widest : WidensAsPost post post
   -- the check of the diagonal table: accepted, with its count (SPECIFICATION 16.4)
   pub diagonal : (keep : List ℕ) → 2 ≤ length keep
-      → (check_outcome shortest_tick post post keep (ten_by_ten diagonal_raster)).answer ≡ checked.Accepted 9
+      → (check_outcome shortest_tick post post keep (ten_by_ten diagonal_raster)).answer ≡ Ok 9
   -- the check of the table with the starts alone: the tick breaks a rule (SPECIFICATION 16.4)
   pub start_only : (keep : List ℕ) → 2 ≤ length keep
       → (check_outcome shortest_tick post post keep (ten_by_ten start_raster)).answer
-      ≡ checked.Refused (record { code = 20; file = 0; p = 0; q = 0 })
+      ≡ Err (RuleBroken (step 0) 0)
   -- Rearm's widest table against Post (SPECIFICATION 16.5)
   pub rearm_widest : (keep table : List ℕ) → 2 ≤ length keep → 29 ≤ length table
-      → (widest_outcome shortest_tick rearm post keep table).answer ≡ made.Made 25 false
+      → (widest_outcome shortest_tick rearm post keep table).answer ≡ Ok (record { count = 25; start = false })
   -- the other departures (SPECIFICATION 16.6), with their steps
   pub early_post : Searches early post 8 10 3 (tick ∷ tick ∷ 3 ∷ [])
   pub idle_post : Searches idle post 4 10 4 (tick ∷ tick ∷ tick ∷ tick ∷ [])
@@ -119,63 +118,63 @@ pub record Starred : Type 0 where
   pub strict_post : Searches strict post 12 10 0 []
   pub post_strict : Searches post strict 10 12 0 []
   pub strict_widest : (keep table : List ℕ) → 2 ≤ length keep → 33 ≤ length table
-      → (widest_outcome shortest_tick strict post keep table).answer ≡ made.Made 34 true
+      → (widest_outcome shortest_tick strict post keep table).answer ≡ Ok (record { count = 34; start = true })
   pub strict_widened : (keep table : List ℕ) → 2 ≤ length keep → 29 ≤ length table
-      → (widest_outcome shortest_tick post strict keep table).answer ≡ made.Made 34 true
+      → (widest_outcome shortest_tick post strict keep table).answer ≡ Ok (record { count = 34; start = true })
   -- the departure of Rearm from Post that the program prints (SPECIFICATION 16.5)
   pub rearm_post : Searches rearm post 10 10 5 (tick ∷ tick ∷ tick ∷ 2 ∷ tick ∷ [])
   -- the implementation check: five posts are implementations, and where Hush and Loose have their faults
   -- (SPECIFICATION 16.8)
-  pub post_passes : implementation_outcome shortest_tick post ≡ verdict.Accepted
-  pub rearm_passes : implementation_outcome shortest_tick rearm ≡ verdict.Accepted
-  pub early_passes : implementation_outcome shortest_tick early ≡ verdict.Accepted
-  pub idle_passes : implementation_outcome shortest_tick idle ≡ verdict.Accepted
-  pub strict_passes : implementation_outcome shortest_tick strict ≡ verdict.Accepted
+  pub post_passes : implementation_outcome shortest_tick post ≡ Ok tt
+  pub rearm_passes : implementation_outcome shortest_tick rearm ≡ Ok tt
+  pub early_passes : implementation_outcome shortest_tick early ≡ Ok tt
+  pub idle_passes : implementation_outcome shortest_tick idle ≡ Ok tt
+  pub strict_passes : implementation_outcome shortest_tick strict ≡ Ok tt
   pub hush_neither : implementation_outcome shortest_tick hush
-      ≡ verdict.Refused (record { code = 23; file = 1; p = 3; q = 0 })
+      ≡ Err (NeitherPossible Left 3)
   pub loose_beside : implementation_outcome shortest_tick loose
-      ≡ verdict.Refused (record { code = 22; file = 1; p = 2; q = 3 })
+      ≡ Err (OutputBesideTick Left 2 3)
   -- Spare is one too, though a state that no run leads to has neither a tick nor an output (SPECIFICATION 16.8)
-  pub spare_states : (read_outcome shortest_tick spare).states ≡ 15
-  pub spare_fault : neither 4 (input (read_outcome shortest_tick spare).text)
-      (next (read_outcome shortest_tick spare).text) 10 ≡ true
-  pub spare_passes : implementation_outcome shortest_tick spare ≡ verdict.Accepted
+  pub spare_states : states_in (read_outcome shortest_tick spare) ≡ 15
+  pub spare_fault : neither 4 (input (text_in (read_outcome shortest_tick spare)))
+      (next (text_in (read_outcome shortest_tick spare))) 10 ≡ true
+  pub spare_passes : implementation_outcome shortest_tick spare ≡ Ok tt
   -- Sheet at tick lengths 1,000, 2,000 and 60,000; 6 at tick length 1 and 24 at 0 (SPECIFICATION 16.9)
-  pub sheet_states : (read_outcome 1000 sheet).states ≡ 10
-  pub sheet_fewer : (read_outcome 2000 sheet).states ≡ 8
-  pub sheet_passes : implementation_outcome 1000 sheet ≡ verdict.Accepted
-  pub sheet_beside : implementation_outcome 2000 sheet ≡ verdict.Refused (record { code = 22; file = 1; p = 1; q = 3 })
-  pub sheet_longest : implementation_outcome 60000 sheet ≡ verdict.Accepted
-  pub sheet_large : (read_outcome shortest_tick sheet).answer
-      ≡ verdict.Refused (record { code = 6; file = 1; p = 78; q = 0 })
-  pub sheet_zero : (read_outcome 0 sheet).answer ≡ verdict.Refused (record { code = 24; file = 0; p = 0; q = 0 })
+  pub sheet_states : states_in (read_outcome 1000 sheet) ≡ 10
+  pub sheet_fewer : states_in (read_outcome 2000 sheet) ≡ 8
+  pub sheet_passes : implementation_outcome 1000 sheet ≡ Ok tt
+  pub sheet_beside : implementation_outcome 2000 sheet ≡ Err (OutputBesideTick Left 1 3)
+  pub sheet_longest : implementation_outcome 60000 sheet ≡ Ok tt
+  pub sheet_large : answer_of (read_outcome shortest_tick sheet)
+      ≡ Err (ConstantTooLarge Left 78)
+  pub sheet_zero : answer_of (read_outcome 0 sheet) ≡ Err (TickOutOfRange 0)
   -- Twice: its parallel edges make one move, so that it has the answers of Post (SPECIFICATION 16.10)
-  pub twice_states : (read_outcome shortest_tick twice).states ≡ 10
+  pub twice_states : states_in (read_outcome shortest_tick twice) ≡ 10
   pub twice_safe : (keep : List ℕ) → 2 ≤ length keep → (safe_outcome shortest_tick twice keep).answer
-      ≡ counted.Found 9 true
+      ≡ Ok (record { count = 9; start = true })
   pub twice_post : Searches twice post 10 10 0 []
   pub post_twice : Searches post twice 10 10 0 []
   pub twice_widest : WidensAsPost twice post
   pub twice_widened : WidensAsPost post twice
-  pub twice_passes : implementation_outcome shortest_tick twice ≡ verdict.Accepted
+  pub twice_passes : implementation_outcome shortest_tick twice ≡ Ok tt
   -- 11 where the second edge leads to Wait, and where it resets x (SPECIFICATION 16.10)
-  pub stay_refused : (read_outcome shortest_tick stay_or_go).answer
-      ≡ verdict.Refused (record { code = 11; file = 1; p = 0; q = 1 })
-  pub reset_refused : (read_outcome shortest_tick reset_or_not).answer
-      ≡ verdict.Refused (record { code = 11; file = 1; p = 1; q = 1 })
+  pub stay_refused : answer_of (read_outcome shortest_tick stay_or_go)
+      ≡ Err (TwoEdges Left 0 1)
+  pub reset_refused : answer_of (read_outcome shortest_tick reset_or_not)
+      ≡ Err (TwoEdges Left 1 1)
   -- Woken: its states and safe states, that it is an implementation, and its departures (SPECIFICATION 16.11)
-  pub woken_states : (read_outcome shortest_tick woken).states ≡ 10
+  pub woken_states : states_in (read_outcome shortest_tick woken) ≡ 10
   pub woken_safe : (keep : List ℕ) → 2 ≤ length keep → (safe_outcome shortest_tick woken keep).answer
-      ≡ counted.Found 9 true
-  pub woken_passes : implementation_outcome shortest_tick woken ≡ verdict.Accepted
+      ≡ Ok (record { count = 9; start = true })
+  pub woken_passes : implementation_outcome shortest_tick woken ≡ Ok tt
   pub woken_post : Searches woken post 10 10 4 (2 ∷ tick ∷ tick ∷ 3 ∷ [])
   pub post_woken : Searches post woken 10 10 4 (2 ∷ tick ∷ tick ∷ tick ∷ [])
   -- where 7 is overridden by 1, 7 counts towards M, and nothing departs from Woken either way (SPECIFICATION 16.11)
-  pub overridden_states : (read_outcome shortest_tick overridden).states ≡ 18
+  pub overridden_states : states_in (read_outcome shortest_tick overridden) ≡ 18
   pub overridden_woken : Searches overridden woken 18 10 0 []
   pub woken_overridden : Searches woken overridden 10 18 0 []
   -- 10 where Wait's invariant does not allow the value, and 11 beside an edge that assigns nothing (SPECIFICATION 16.11)
-  pub too_late_refused : (read_outcome shortest_tick too_late).answer
-      ≡ verdict.Refused (record { code = 10; file = 1; p = 0; q = 2 })
-  pub late_refused : (read_outcome shortest_tick late_or_not).answer
-      ≡ verdict.Refused (record { code = 11; file = 1; p = 0; q = 2 })
+  pub too_late_refused : answer_of (read_outcome shortest_tick too_late)
+      ≡ Err (InputWithoutMove Left 0 2)
+  pub late_refused : answer_of (read_outcome shortest_tick late_or_not)
+      ≡ Err (TwoEdges Left 0 2)
