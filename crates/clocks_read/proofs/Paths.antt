@@ -13,7 +13,9 @@ use Rattle.clocks.specs.States.{state_count, judgement}
 use Rattle.clocks.specs.Encoding.{judged_table, judged_holds}
 use Rattle.clocks_read.specs.declared.Reading.{Reading}
 use Rattle.clocks_read.specs.Reading.{flaw_refusal, judged_reading}
-use Rattle.clocks_read.specs.Loading.{loading, judged_loading}
+use Rattle.clocks_read.specs.Loading.{loading, judged_loading, parsed_loading}
+use Rattle.clocks_read.specs.declared.Measured.{Measured}
+use Rattle.clocks_read.specs.Measured.{measured_loading}
 
 -- the judgement with its flaw as a refusal
 abbrev pub mapped : Result ⊤ Flaw → Result ⊤ Refusal
@@ -54,6 +56,17 @@ module _ (t : Text) (m h m' h' : List ℕ) (j : Result ⊤ Flaw) (r : Result ⊤
       → loading (Ok (record { text = t; states = n })) m' h' ≡ judged_loading t m h
   judge_accepted n i k =
       judge_done _ (accepted_reading t j (sym (map_is j r q) ∙ i) ∙ rw k)
+
+-- what is judged is the text that is measured; one that is refused stays so
+pub measured_is : (q : Result Measured Refusal) (v : Measured) (m h : List ℕ) → q ≡ Ok v
+    → judged_loading v.text m h ≡ measured_loading q m h
+unfolding parsed_loading
+measured_is q v m h e = rw e
+
+pub measured_stays : (q : Result Measured Refusal) (f : Refusal) (m h : List ℕ) (r : Result Reading Refusal) → q ≡ Err f
+    → IsErrAnd r (λ g. g ≡ f) → loading r m h ≡ measured_loading q m h
+unfolding parsed_loading
+measured_stays q f m h r e k = let (g, is, same) = err_from_is_err_and r k in rw (e, is, same)
 
 -- what is read is well formed
 pub parsed_formed : (period : ℕ) (s : List ℕ) (t : Text) → Ok t ≡ read_text period s → WellFormed t

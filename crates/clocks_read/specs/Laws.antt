@@ -102,9 +102,9 @@ module _ (period : ℕ) where
   measured_refused s f e = rw (sym e.parsed)
 
   -- it is what reading the text gives
-  pub measured_load : (s : List ℕ) (m : Measured) → Measures period s (Ok m) → (moves holds : List ℕ)
+  pub measured_load : (s : List ℕ) (m : Result Measured Refusal) → Measures period s m → (moves holds : List ℕ)
       → measured_loading m moves holds ≡ load_outcome period s moves holds
-  unfolding load_outcome parsed_loading
+  unfolding load_outcome
   measured_load s m e moves holds = ap (λ (r : Result Text Refusal). parsed_loading r moves holds) e.parsed
 
   -- of an accepted text it has the record, the ranges and the number of states
@@ -116,7 +116,7 @@ module _ (period : ℕ) where
     measured_counted = rw (sym measured_text) e.counted
 
   -- reading goes by the judgement on the text that is measured
-  pub measured_reading : (s : List ℕ) (m : Measured) → Measures period s (Ok m) → (moves holds : List ℕ) (l : Loading)
+  pub measured_reading : (s : List ℕ) (m : Result Measured Refusal) → Measures period s m → (moves holds : List ℕ) (l : Loading)
       → l ≡ measured_loading m moves holds → l.reading ≡ read_outcome period s
   measured_reading s m e moves holds l q =
       ap (λ (x : Loading). x.reading) (q ∙ measured_load s m e moves holds) ∙ load_reading s moves holds

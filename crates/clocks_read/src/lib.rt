@@ -6,7 +6,7 @@ ghost use Rattle.std.specs.Prelude.{◌≡◌, length};
 ghost use Rattle.clocks_table.specs.Room.{Room};
 ghost use Rattle.clocks_read.specs.Reading.{flaw_refusal};
 ghost use Rattle.clocks_read.specs.Loading.{Loading};
-ghost use Rattle.clocks_read.specs.Measured.{Measures, WellMeasured, measured_loading};
+ghost use Rattle.clocks_read.specs.Measured.{Measures, WellMeasured, states_of, measured_loading};
 
 use clocks::{Flaw, Ranges};
 use reader_record::Text;
@@ -53,12 +53,17 @@ pub fn measure(period: usize, text: &[u8]) -> Result<Measured, Refusal>
 }
 
 // Judges a text that is parsed and measured by codes 9 to 11: the move table and the bits of the states whose invariant
-// holds are filled, for an operation that goes on with its states.
-pub fn judge(m: Measured, moves: &mut [u16], holds: &mut [u8]) -> Result<Reading, Refusal>
-    requires { WellMeasured m × Room m.states (length moves.old) (length holds.old) }
+// holds are filled, for an operation that goes on with its states. One that is refused stays so, and leaves both.
+pub fn judge(
+    measured: Result<Measured, Refusal>,
+    moves: &mut [u16],
+    holds: &mut [u8],
+) -> Result<Reading, Refusal>
+    requires { WellMeasured measured × Room (states_of measured) (length moves.old) (length holds.old) }
     ensures { ◌≡◌ {A = Loading} (record { reading = result; moves = moves.new; holds = holds.new })
-        (measured_loading m moves.old holds.old) }
+        (measured_loading measured moves.old holds.old) }
 {
+    let m = measured?;
     let t = m.text;
     clocks_table::judge(t, m.ranges, m.states, moves, holds).map_err(refusal_of)?;
     Ok(Reading {

@@ -17,7 +17,6 @@ use Rattle.reader.specs.Reading as reader
 use Rattle.clocks.specs.declared.Flaw.{Flaw}
 use Rattle.clocks.specs.declared.Flaw.TheVariants.{TooManyStates, NoMove, TwoEdges}
 use Rattle.clocks.specs.States.{judgement}
-use Rattle.clocks_read.specs.declared.Reading.{Reading}
 use Rattle.clocks_read.specs.Reading.{judged_reading, parsed_reading, read_outcome}
 
 -- the last code of reading tokens, the last code of a text, and the code of the tick length

@@ -36,7 +36,7 @@ fn read_within<const MOVES: usize, const BYTES: usize>(
     requires sizes { (MOVES ≤ move_limit) × (BYTES ≤ keep_limit) }
     ensures { result ≡ read_outcome period text.now }
 {
-    clocks_read::judge(m, &mut [0; MOVES], &mut [0; BYTES])
+    clocks_read::judge(Ok(m), &mut [0; MOVES], &mut [0; BYTES])
 }
 
 // Reads a text: its record and state count, or codes 24 and 1 to 11 (SPECIFICATION 12.1).
@@ -63,7 +63,7 @@ fn safe_within<const MOVES: usize, const BYTES: usize>(
     ensures { ◌≡◌ {A = safe.Outcome}
         (record { answer = result; keep = keep.new }) (safe.safe_outcome period text.now keep.old) }
 {
-    safe_states::safe_in(period, text, m, &mut [0; MOVES], &mut [0; BYTES], keep)
+    safe_states::safe_in(period, text, Ok(m), &mut [0; MOVES], &mut [0; BYTES], keep)
 }
 
 // Writes the bits of the safe states into keep (SPECIFICATION 8.4); how many there are and whether the start is one, or
@@ -95,7 +95,7 @@ fn implementation_within<const MOVES: usize, const BYTES: usize, const STATES: u
     implementation_check::implementation_in(
         period,
         text,
-        m,
+        Ok(m),
         &mut [0; MOVES],
         &mut [0; BYTES],
         &mut seen,

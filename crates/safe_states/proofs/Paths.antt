@@ -10,7 +10,7 @@ use native.Mathlib.Omega.{arith}
 use lib.Dec.{ltb}
 use lib.ListN.{length}
 use borrow.Author.Tests.{lt-ltb, le-ltb}
-use Rattle.systems.specs.Tests.{at, ones}
+use Rattle.systems.specs.Tests.{ones}
 use Rattle.systems.specs.Finite as finite
 use Rattle.refusals.specs.declared.Refusal.{Refusal}
 use Rattle.refusals.specs.declared.Refusal.TheVariants.{KeepTooShort}
@@ -38,7 +38,7 @@ use Rattle.clocks_read.specs.Loading.{Loading, load_outcome, loading}
 use Rattle.clocks_read.specs.Laws.{load_reading}
 use Rattle.clocks_read.specs.Loaded.{text_is, record_accepted, states_are, states_few, slices_filled}
 use Rattle.safe_states.specs.declared.SafeStates.{SafeStates}
-use Rattle.safe_states.specs.Outcome.{Outcome, refused, found_outcome, kept_outcome, answered, safe_outcome}
+use Rattle.safe_states.specs.Outcome.{Outcome, found_outcome, kept_outcome, answered, safe_outcome}
 use Rattle.limits.specs.Limits.{state_limit, step_limit}
 use Rattle.safe_states.specs.Ready.{Ready}
 
@@ -92,6 +92,12 @@ module _ {t : Text} {v : Ranges} {n : ℕ} {moves holds keep : List ℕ} (R : Re
           → outcome (Ok (record { count = r; start = b })) after ≡ found_outcome t keep
       unfolding found_outcome
       ready_found r b c f = rw (c, f ∙ ap (bit_at after) start_is ∙ packed_bit safe_packed (start_state t) start_in, e)
+
+-- a text that is refused before
+pub safe_unread : (period : ℕ) (s k : List ℕ) (f : Refusal) → read_outcome period s ≡ Err f → (r : Result SafeStates Refusal)
+    → IsErrAnd r (λ g. g ≡ f) → outcome r k ≡ safe_outcome period s k
+unfolding safe_outcome answered
+safe_unread period s k f e r i = let (g, is, same) = err_from_is_err_and r i in rw (e, is, same)
 
 -- the paths after the text is read and the slices are filled
 module _ (period : ℕ) (s m h m' h' k : List ℕ) where

@@ -3,7 +3,7 @@
 
 ghost use Rattle.std.specs.Prelude.{◌≡◌, Ok, length};
 ghost use Rattle.clocks_table.specs.Room.{Room};
-ghost use Rattle.clocks_read.specs.Measured.{Measures};
+ghost use Rattle.clocks_read.specs.Measured.{Measures, states_of};
 ghost use Rattle.safe_states.specs.Outcome.{Outcome, found_outcome, safe_outcome};
 ghost use Rattle.safe_states.specs.Ready.{Ready};
 
@@ -35,20 +35,22 @@ fn found(t: Text, r: Ranges, n: usize, moves: &[u16], holds: &[u8], keep: &mut [
     }
 }
 
-// The operation with slices that have room for the text, which is parsed and measured (SPECIFICATION 12.2).
+// The operation with slices that have room for the text, which is parsed and measured, or refused (SPECIFICATION 12.2).
 pub fn safe_in(
     period: usize,
     text: &[u8],
-    m: Measured,
+    measured: Result<Measured, Refusal>,
     moves: &mut [u16],
     holds: &mut [u8],
     keep: &mut [u8],
 ) -> Result<SafeStates, Refusal>
-    requires { Measures period text.now (Ok m) × Room m.states (length moves.old) (length holds.old) }
+    requires { Measures period text.now measured
+        × Room (states_of measured) (length moves.old) (length holds.old) }
     ensures { ◌≡◌ {A = Outcome} (record { answer = result; keep = keep.new })
         (safe_outcome period text.now keep.old) }
 {
-    let reading = clocks_read::judge(m, moves, holds)?;
+    let m = measured?;
+    let reading = clocks_read::judge(Ok(m), moves, holds)?;
     let n = reading.states;
     let need = bitmaps::bytes_for(n);
     if keep.len() < need {

@@ -216,9 +216,9 @@ module _ (period : ℕ) where
 
   -- a text, parsed and measured, after it is judged
   module _ (s : List ℕ) (v : Measured) (M : Measures period s (Ok v)) (m h : List ℕ) (r : Result Reading Refusal) (m' h' : List ℕ)
-      (e : loading r m' h' ≡ measured_loading v m h) where
+      (e : loading r m' h' ≡ measured_loading (Ok v) m h) where
     loaded_is : loading r m' h' ≡ load_outcome period s m h
-    loaded_is = e ∙ measured_load period s v M m h
+    loaded_is = e ∙ measured_load period s (Ok v) M m h
 
     pub loaded_refused : (file : File) (f : Refusal) → r ≡ Err f
         → refused_in file (answer_of (read_outcome period s)) ≡ some (in_file file f)
@@ -291,7 +291,7 @@ module _ (period : ℕ) where
     }
 
     module _ (v : Measured) (M : Measures period right (Ok v)) (m h : List ℕ) (r : Result Reading Refusal) (own h' : List ℕ)
-        (e : loading r own h' ≡ measured_loading v m h) where
+        (e : loading r own h' ≡ measured_loading (Ok v) m h) where
       pub right_paired : (d : List ℕ) (t : Result TwoTexts Refusal) → answer_of r ≡ Ok tt
           → Room v.states (length m) (length h)
           → Paired period left right own own d t → RightLoaded period left right d h' t
@@ -348,7 +348,7 @@ module _ (period : ℕ) where
               (rw (allowed, le-ltb largest_text (length left) h, le-ltb largest_text (length right) k, a)) z
 
           module _ (v : Measured) (M : Measures period left (Ok v)) (lm lh : List ℕ)
-              (l : Result Reading Refusal) (lm' lh' : List ℕ) (e : loading l lm' lh' ≡ measured_loading v lm lh) where
+              (l : Result Reading Refusal) (lm' lh' : List ℕ) (e : loading l lm' lh' ≡ measured_loading (Ok v) lm lh) where
             pub both_read : (rm rh : List ℕ) (t : Result TwoTexts Refusal) → answer_of l ≡ Ok tt
                 → Room v.states (length lm) (length lh)
                 → RightLoaded period left right rm rh t → Loads period left right lm' rm lh' rh t

@@ -5,14 +5,9 @@ use Rattle.clocks_table.specs.Judge.{room_within, room_always}
 use Rattle.clocks_table.specs.Room.{Room}
 use Rattle.refusals.specs.declared.Refusal.{Refusal}
 use Rattle.clocks_read.specs.declared.Measured.{Measured}
-use Rattle.clocks_read.specs.Measured.{Measures}
+use Rattle.clocks_read.specs.Measured.{Measures, states_of}
 use Rattle.two_texts.specs.declared.MeasuredTexts.{MeasuredTexts}
 use Rattle.limits.specs.Limits.{move_limit, keep_limit, few_states, few_moves, few_bytes}
-
--- the number of states of a text that is measured; a refused one has none
-abbrev pub states_of : Result Measured Refusal → ℕ
-states_of (Ok m) = m.states
-states_of (Err f) = 0
 
 -- both counts of states are few, if `few` says so
 pub record Few (few : Bool) (n w : ℕ) : Type 0 where

@@ -4,11 +4,11 @@
 
 ghost use Rattle.std.specs.Prelude.{◌≡◌, ◌*◌, ◌≤◌, length, leb};
 ghost use Rattle.clocks_table.specs.Room.{Room};
-ghost use Rattle.clocks_read.specs.Measured.{Measures};
+ghost use Rattle.clocks_read.specs.Measured.{Measures, states_of};
 ghost use Rattle.refusals.specs.declared.File.TheVariants.{Left, Right};
 ghost use Rattle.refusals.specs.Refusals.{in_file};
 ghost use Rattle.two_texts.specs.Loaded.{Loads};
-ghost use Rattle.two_texts.specs.Measured.{states_of, MeasuresTwo, Rooms};
+ghost use Rattle.two_texts.specs.Measured.{MeasuresTwo, Rooms};
 ghost use Rattle.two_texts.specs.Answers.{sides_of, accepted, Sized, AcceptedMeasure, Paired, RightLoaded};
 ghost use Rattle.limits.specs.Limits.{step_limit, few_states};
 
@@ -117,7 +117,7 @@ fn load_right(
         holds.new result }
 {
     let m = theirs.map_err(in_right)?;
-    clocks_read::judge(m, moves, holds).map_err(in_right)?;
+    clocks_read::judge(Ok(m), moves, holds).map_err(in_right)?;
     paired(period, left, ours, right, m, moves)
 }
 
@@ -169,6 +169,6 @@ pub fn load_two(
         return Err(Refusal::TextTooLong(File::Right));
     }
     let ours = both.left.map_err(in_left)?;
-    clocks_read::judge(ours, lm, lh).map_err(in_left)?;
+    clocks_read::judge(Ok(ours), lm, lh).map_err(in_left)?;
     load_right(period, left, ours, right, both.right, rm, rh)
 }
