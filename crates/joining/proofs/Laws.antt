@@ -1,13 +1,12 @@
 -- Laws of joining: the order of its judgements, and the text from the array in which it is written.
-use Rattle.std.specs.Prelude.{◌≡◌, true, false, List, ◌++◌, ℕ, ◌≤◌, ◌<◌, min, length}
+use Rattle.std.specs.Prelude.{◌≡◌, true, false, List, ◌++◌, ℕ, ◌≤◌, ◌<◌, min, length, Ok, Err}
 use Rattle.std.proofs.Math.Path.{ap}
 use Rattle.std.proofs.Common.{◌∙◌, arith, take_at}
 use Rattle.std.proofs.Math.ListN.{take, drop}
 use Rattle.std.proofs.Math.Seq.{take_all}
 use borrow.Author.Tests.{lt-ltb, le-ltb, lt-leb, le-leb}
 use Rattle.limits.specs.Limits.{largest_text, state_limit}
-use Rattle.refusals.specs.declared.Refusal.{Refusal}
-use Rattle.refusals.specs.Refusals.{limit_exceeded, out_too_short}
+use Rattle.refusals.specs.declared.Refusal.TheVariants.{LimitExceeded, OutTooShort}
 use Rattle.byte_slices.specs.Laid.{Laid, laid}
 use Rattle.byte_slices.specs.Put.{Puts, puts_same, puts_laid}
 use Rattle.reader_record.specs.declared.Text.{Text}
@@ -18,18 +17,17 @@ use Rattle.written.specs.Underscores.{underscores, written_text}
 use Rattle.written_names.specs.Spelled.{channel_spellings}
 use Rattle.written_names.specs.Inside.{names_in}
 use Rattle.writer_names.specs.NameLaws.{underscores_here}
-use Rattle.joining.specs.declared.JoinAnswer.TheVariants.{Written, Refused}
 use Rattle.joining.specs.Outcome.{Outcome, refused, within_limits, laid_text, record_outcome}
 use Rattle.joining.specs.Ready.{room, bytes_outcome}
 
 -- code 25 for the counts, then for the states; then it goes by the text
 module _ (t : Text) (z out : List ℕ) where
-  pub over_counts : counts_fit t ≡ false → refused limit_exceeded out ≡ record_outcome t z out
+  pub over_counts : counts_fit t ≡ false → refused LimitExceeded out ≡ record_outcome t z out
   unfolding record_outcome within_limits
   over_counts e = rw e
 
   pub over_states : counts_fit t ≡ true → state_limit < state_count t
-      → refused limit_exceeded out ≡ record_outcome t z out
+      → refused LimitExceeded out ≡ record_outcome t z out
   unfolding record_outcome within_limits
   over_states e h = rw (e, lt-leb (state_count t) state_limit h)
 
@@ -67,21 +65,20 @@ module _ (z : List ℕ) {before after : List ℕ} {n : ℕ} (size : length befor
       (take_at z (drop (length z) before) n m)
 
   module _ (out : List ℕ) where
-    pub text_over : {f : Refusal} → f ≡ limit_exceeded → largest_text < n
-        → record { answer = Refused f; out = out } ≡ bytes_outcome z out
+    pub text_over : largest_text < n → ◌≡◌ {A = Outcome} (record { answer = Err LimitExceeded; out = out }) (bytes_outcome z out)
     unfolding bytes_outcome refused
-    text_over q h = rw (q, lt-leb (length z) largest_text (omega (arith, count_is)))
+    text_over h = rw (lt-leb (length z) largest_text (omega (arith, count_is)))
 
-    pub text_short : {f : Refusal} → f ≡ out_too_short n → n ≤ largest_text → length out < n
-        → record { answer = Refused f; out = out } ≡ bytes_outcome z out
+    pub text_short : n ≤ largest_text → length out < n
+        → ◌≡◌ {A = Outcome} (record { answer = Err (OutTooShort n); out = out }) (bytes_outcome z out)
     unfolding bytes_outcome laid_text refused
-    text_short q h s =
+    text_short h s =
         let m = text_size h in
-        rw (q, le-leb (length z) largest_text (omega (arith, m)), lt-ltb (length out) (length z) (omega (arith, m)), m)
+        rw (le-leb (length z) largest_text (omega (arith, m)), lt-ltb (length out) (length z) (omega (arith, m)), m)
 
     -- its bytes are copied to the slice
     pub text_copied : {copy : List ℕ} {k : ℕ} → n ≤ largest_text → n ≤ length out → Puts out 0 (take n after) copy k
-        → ◌≡◌ {A = Outcome} (record { answer = Written n; out = copy }) (bytes_outcome z out)
+        → ◌≡◌ {A = Outcome} (record { answer = Ok n; out = copy }) (bytes_outcome z out)
     unfolding bytes_outcome laid_text laid
     text_copied {copy} h s q =
         let m = text_size h in

@@ -18,15 +18,8 @@ ghost use Rattle.joining.specs.Ready.{room, Ready, bytes_outcome};
 
 use limits::{LARGEST_TEXT, STATE_LIMIT};
 use reader_record::Text;
-use refusals::{Refusal, Verdict};
+use refusals::Refusal;
 use two_texts::MeasuredTexts;
-
-// The length of the joined text, which stands at the front of the slice, or the refusal (SPECIFICATION 12.10).
-#[derive(Clone, Copy)]
-pub enum JoinAnswer {
-    Written(usize),
-    Refused(Refusal),
-}
 
 // Room for the longest text and one byte more.
 const ROOM: usize = LARGEST_TEXT + 1;
@@ -48,7 +41,7 @@ fn states_of(t: Text) -> usize
 }
 
 // Writes the text of a record whose channels are named in the text s: code 25 where it is too long, then 26.
-fn write_text(s: &[u8], t: Text, out: &mut [u8]) -> JoinAnswer
+fn write_text(s: &[u8], t: Text, out: &mut [u8]) -> Result<usize, Refusal>
     requires { TextWithin s.now t }
     ensures { ◌≡◌ {A = Outcome} (record { answer = result; out = out.new })
         (bytes_outcome (written_text (channel_spellings s.now t) t) out.old) }
@@ -64,37 +57,43 @@ fn write_text(s: &[u8], t: Text, out: &mut [u8]) -> JoinAnswer
     let mut text = no_bytes();
     let n = writer::put_text(&mut text, 0, s, u, t);
     if LARGEST_TEXT < n {
-        return JoinAnswer::Refused(Refusal::limit_exceeded());
+        return Err(Refusal::LimitExceeded);
     }
     if out.len() < n {
-        return JoinAnswer::Refused(Refusal::out_too_short(n));
+        return Err(Refusal::OutTooShort(n));
     }
     byte_slices::put_bytes(out, 0, &text[..n]);
-    JoinAnswer::Written(n)
+    Ok(n)
 }
 
 // Joins the records of two accepted texts with equal channels and writes the joined record.
-fn join_accepted(left: &[u8], l: Text, right: &[u8], r: Text, out: &mut [u8]) -> JoinAnswer
-    requires { Ready left.now l r }
+fn join_accepted(
+    left: &[u8],
+    l: Text,
+    right: &[u8],
+    r: Text,
+    out: &mut [u8],
+) -> Result<usize, Refusal>
+    requires { Ready left.now l right.now r }
     ensures { ◌≡◌ {A = Outcome} (record { answer = result; out = out.new })
         (record_outcome (joined_text (right_step left.now l right.now r) l r)
         (written_text (channel_spellings left.now l)
         (joined_text (right_step left.now l right.now r) l r)) out.old) }
 {
-    let pairing = pairing::pair_channels(left, l, right, r);
-    let map = pairing.map;
+    let map = pairing::pair_channels(left, l, right, r).unwrap();
     let joining = joining_record::join_records(l, r, map);
     if !joining.fits {
-        return JoinAnswer::Refused(Refusal::limit_exceeded());
+        return Err(Refusal::LimitExceeded);
     }
     let t = joining.text;
     if STATE_LIMIT < states_of(t) {
-        return JoinAnswer::Refused(Refusal::limit_exceeded());
+        return Err(Refusal::LimitExceeded);
     }
     write_text(left, t, out)
 }
 
-// Judges two texts by codes 24 and 1 to 12 and joins them.
+// Judges two texts by codes 24 and 1 to 12 and joins them: the length of the joined text, which stands at the front of
+// the slice, or the refusal (SPECIFICATION 12.10).
 pub fn join(
     period: usize,
     left: &[u8],
@@ -105,24 +104,14 @@ pub fn join(
     lh: &mut [u8],
     rh: &mut [u8],
     out: &mut [u8],
-) -> JoinAnswer
+) -> Result<usize, Refusal>
     requires { MeasuresTwo period left.now right.now texts
         × Rooms texts (length lm.old) (length rm.old) (length lh.old) (length rh.old) }
     ensures { ◌≡◌ {A = Outcome} (record { answer = result; out = out.new })
         (join_outcome period left.now right.now out.old) }
 {
-    let t = two_texts::load_two(period, left, right, texts, lm, rm, lh, rh);
-    let answer = t.answer;
-    match answer {
-        Verdict::Refused(f) => JoinAnswer::Refused(f),
-        Verdict::Accepted => {
-            let ours = texts.left;
-            let theirs = texts.right;
-            let mine = ours.parsed;
-            let other = theirs.parsed;
-            let l = mine.text;
-            let r = other.text;
-            join_accepted(left, l, right, r, out)
-        }
-    }
+    two_texts::load_two(period, left, right, texts, lm, rm, lh, rh)?;
+    let ours = texts.left.unwrap();
+    let theirs = texts.right.unwrap();
+    join_accepted(left, ours.text, right, theirs.text, out)
 }

@@ -24,8 +24,10 @@ pub struct Edges {
 fn no_edges(e: Edge) -> Edges
     ensures { Holds [] result }
 {
-    let list = [e; EDGE_LIMIT];
-    Edges { list, count: 0 }
+    Edges {
+        list: [e; EDGE_LIMIT],
+        count: 0,
+    }
 }
 
 // Adds a left edge a with each of the first k right edges on channel d, each pair as one edge. The texts have m and n
@@ -47,12 +49,9 @@ fn pair_edge(
 {
     let mut list = es.list;
     let mut count = es.count;
-    let mut i: usize = 0;
-    while i < k {
+    for i in 0..k {
         let b = right[i];
-        i += 1;
-        let label = b.label;
-        if joining_items::channel_of(label) != d {
+        if joining_items::channel_of(b.label) != d {
             continue;
         }
         if EDGE_LIMIT <= count {
@@ -75,13 +74,10 @@ pub fn pair_edges(l: Text, r: Text, map: [usize; STEP_LIMIT]) -> Edges
     let left = l.edges;
     let right = r.edges;
     let clocks = l.clock_count as u8;
-    let filling = left[0];
-    let mut all = no_edges(filling);
-    let mut i: usize = 0;
-    while i < l.edge_count {
+    let mut all = no_edges(left[0]);
+    for i in 0..l.edge_count {
         let a = left[i];
-        let label = a.label;
-        let c = joining_items::channel_of(label);
+        let c = joining_items::channel_of(a.label);
         let d = map[c];
         all = pair_edge(
             all,
@@ -96,7 +92,6 @@ pub fn pair_edges(l: Text, r: Text, map: [usize; STEP_LIMIT]) -> Edges
         if EDGE_LIMIT < all.count {
             return all;
         }
-        i += 1;
     }
     all
 }

@@ -11,24 +11,24 @@ use limits::{CLOCK_LIMIT, COMPARISON_LIMIT};
 use reader_record::{Assignment, Comparison, Constraint, Edge, Label, Sign};
 
 // The channel of a label, from 1.
+#[tactic(auto, unfolding(reader_record::specs::Record::channel))]
 pub fn channel_of(l: Label) -> usize
     ensures { result ≡ channel l }
 {
     match l {
-        Label::Input(c) => c as usize,
-        Label::Output(c) => c as usize,
+        Label::Input(c) | Label::Output(c) => usize::from(c),
     }
 }
 
 // The right's comparison on its new clock, where the left has n clocks (SPECIFICATION 18.3).
+#[tactic(auto, unfolding(joined::specs::Joined::shifted))]
 fn shifted(n: u8, q: Comparison) -> Comparison
     requires { (n ≤ clock_limit) × (q.clock < clock_limit) }
     ensures { result ≡ shifted n q }
 {
-    let sign = q.sign;
     Comparison {
         clock: n + q.clock,
-        sign,
+        sign: q.sign,
         bound: q.bound,
     }
 }
@@ -38,22 +38,11 @@ fn comparison_at(n: u8, g: Constraint, h: Constraint, i: usize) -> Comparison
     requires { Joinable n g h × (i < comparison_limit) × (i < g.count + h.count) }
     ensures { result ≡ comparison (both_constraints n g h) i }
 {
-    let first = g.count as usize;
+    let first = usize::from(g.count);
     if i < first {
         return g.comparisons[i];
     }
-    let q = h.comparisons[i - first];
-    shifted(n, q)
-}
-
-// Of n comparisons, those for which there is room.
-fn with_room(n: usize) -> usize
-    ensures { (result ≤ n) × (result ≤ comparison_limit) × ((i : ℕ) → i < n → i < comparison_limit → i < result) }
-{
-    if n < COMPARISON_LIMIT {
-        return n;
-    }
-    COMPARISON_LIMIT
+    shifted(n, h.comparisons[i - first])
 }
 
 // Two guards or invariants joined, where the left text has n clocks (SPECIFICATION 18.3). The count is right even where
@@ -62,19 +51,16 @@ pub fn join_constraint(n: u8, g: Constraint, h: Constraint) -> Constraint
     requires { Joinable n g h }
     ensures { Nearly (both_constraints n g h) result }
 {
-    let sign = Sign::AtMost;
     let none = Comparison {
         clock: 0,
-        sign,
+        sign: Sign::AtMost,
         bound: 0,
     };
     let mut list = [none; COMPARISON_LIMIT];
     let count = g.count + h.count;
-    let end = with_room(count as usize);
-    let mut i: usize = 0;
-    while i < end {
+    let end = usize::from(count).min(COMPARISON_LIMIT);
+    for i in 0..end {
         list[i] = comparison_at(n, g, h, i);
-        i += 1;
     }
     Constraint {
         comparisons: list,
@@ -84,6 +70,7 @@ pub fn join_constraint(n: u8, g: Constraint, h: Constraint) -> Constraint
 
 // An assignment as a joined text has it: written once, with the value assigned, which is then the largest one too. A
 // value that is overridden is left out (SPECIFICATION 18.5).
+#[tactic(auto, unfolding(reader_record::specs::Record::written_once))]
 fn written_once(a: Assignment) -> Assignment
     ensures { result ≡ written_once a }
 {
@@ -98,17 +85,16 @@ fn written_once(a: Assignment) -> Assignment
 }
 
 // What two edges as one do to clock k, of texts with m and n clocks (SPECIFICATION 18.5).
+#[tactic(auto, using(joined::proofs::Assigned::assignment_left, joined::proofs::Assigned::assignment_behind, joined::proofs::Assigned::assignment_missing))]
 fn assignment_at(m: usize, n: usize, a: Edge, b: Edge, k: usize) -> Assignment
     requires { (m + n ≤ clock_limit) × (k < clock_limit) }
     ensures { result ≡ get_or (both_assignments m n a b) k no_assignment }
 {
     if k < m {
-        let left = a.assignments[k];
-        return written_once(left);
+        return written_once(a.assignments[k]);
     }
     if k - m < n {
-        let right = b.assignments[k - m];
-        return written_once(right);
+        return written_once(b.assignments[k - m]);
     }
     reader_record::no_assignment()
 }
@@ -125,31 +111,30 @@ fn join_assignments(m: usize, n: usize, a: Edge, b: Edge) -> [Assignment; CLOCK_
 }
 
 // The number of a pair of locations, where the right has w (SPECIFICATION 18.2).
+#[tactic(auto, unfolding(joined::specs::Joined::pair))]
 fn pair(w: usize, p: u8, q: u8) -> u8
     requires { pair w p q < location_limit }
     ensures { result ≡ pair w p q }
 {
-    (p as usize * w + q as usize) as u8
+    (usize::from(p) * w + usize::from(q)) as u8
 }
 
 // Two edges as one, of texts with m and n clocks and w locations on the right, with the left's label
 // (SPECIFICATION 18.4).
+#[tactic(auto, unfolding(crate::specs::Items::joined_by))]
 pub fn join_edge(m: u8, n: usize, w: usize, a: Edge, b: Edge) -> Edge
     requires { EdgesJoinable m n w a b }
     ensures { NearEdge (joined_by m n w a b) result }
 {
     let source = pair(w, a.source, b.source);
     let target = pair(w, a.target, b.target);
-    let g = a.guard;
-    let h = b.guard;
-    let guard = join_constraint(m, g, h);
-    let label = a.label;
+    let guard = join_constraint(m, a.guard, b.guard);
     let assignments = join_assignments(m as usize, n, a, b);
     Edge {
         source,
         target,
         guard,
-        label,
+        label: a.label,
         assignments,
     }
 }

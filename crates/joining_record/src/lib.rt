@@ -18,7 +18,7 @@ use joining_edges::Edges;
 use limits::{
     CHANNEL_LIMIT, CLOCK_LIMIT, COMPARISON_LIMIT, EDGE_LIMIT, LOCATION_LIMIT, STEP_LIMIT,
 };
-use reader_record::{Channel, Direction, Location, Name, Text};
+use reader_record::{Channel, Constraint, Direction, Location, Name, Text};
 
 // Whether the joined record is within the limits, and if so, the record; else `text` is filling.
 #[derive(Clone, Copy)]
@@ -32,11 +32,10 @@ fn join_location(n: u8, a: Location, b: Location) -> Location
     requires { Joinable n a.invariant b.invariant }
     ensures { Nearly (both_constraints n a.invariant b.invariant) result.invariant }
 {
-    let g = a.invariant;
-    let h = b.invariant;
-    let invariant = joining_items::join_constraint(n, g, h);
-    let name = Name { place: 0, len: 0 };
-    Location { name, invariant }
+    Location {
+        name: Name { place: 0, len: 0 },
+        invariant: joining_items::join_constraint(n, a.invariant, b.invariant),
+    }
 }
 
 // As many locations as there is room for, all of them filling.
@@ -57,14 +56,11 @@ fn join_locations(l: Text, r: Text) -> [Location; LOCATION_LIMIT]
     let clocks = l.clock_count as u8;
     let width = r.location_count;
     let count = l.location_count * width;
-    let filling = left[0];
-    let mut list = no_locations(filling);
-    let mut pair: usize = 0;
-    while pair < count {
+    let mut list = no_locations(left[0]);
+    for pair in 0..count {
         let p = left[pair / width];
         let q = right[pair % width];
         list[pair] = join_location(clocks, p, q);
-        pair += 1;
     }
     list
 }
@@ -74,15 +70,10 @@ fn has_channel(es: Edges, c: usize) -> bool
     requires { es.count ≤ edge_limit }
     ensures { (xs : List Edge) → Holds xs es → result ≡ has_channel xs c }
 {
-    let edges = es.list;
-    let mut i: usize = 0;
-    while i < es.count {
-        let e = edges[i];
-        let label = e.label;
-        if joining_items::channel_of(label) == c {
+    for i in 0..es.count {
+        if joining_items::channel_of(es.list[i].label) == c {
             return true;
         }
-        i += 1;
     }
     false
 }
@@ -94,9 +85,10 @@ fn join_channel(a: Channel, used: bool) -> Channel
     if used {
         return a;
     }
-    let name = a.name;
-    let direction = Direction::Unused;
-    Channel { name, direction }
+    Channel {
+        name: a.name,
+        direction: Direction::Unused,
+    }
 }
 
 // As many channels as there is room for, all of them filling.
@@ -113,16 +105,20 @@ fn join_channels(l: Text, es: Edges) -> [Channel; CHANNEL_LIMIT]
         → get_or result i no_channel ≡ joined_channel l xs i }
 {
     let channels = l.channels;
-    let filling = channels[0];
-    let mut list = no_channels(filling);
-    let mut i: usize = 0;
-    while i < l.channel_count {
+    let mut list = no_channels(channels[0]);
+    for i in 0..l.channel_count {
         let used = has_channel(es, i + 1);
-        let a = channels[i];
-        list[i] = join_channel(a, used);
-        i += 1;
+        list[i] = join_channel(channels[i], used);
     }
     list
+}
+
+// Whether a guard or an invariant has few enough comparisons.
+#[tactic(auto, unfolding(joined::specs::Joined::few))]
+fn has_few(g: Constraint) -> bool
+    ensures { result ≡ few g }
+{
+    usize::from(g.count) <= COMPARISON_LIMIT
 }
 
 // Whether the invariants of the first n locations have few enough comparisons.
@@ -130,14 +126,10 @@ fn has_few_invariants(list: [Location; LOCATION_LIMIT], n: usize) -> bool
     requires { n ≤ location_limit }
     ensures { result ≡ all n (λ i. few (invariant_at list i)) }
 {
-    let mut i: usize = 0;
-    while i < n {
-        let a = list[i];
-        let g = a.invariant;
-        if COMPARISON_LIMIT < g.count as usize {
+    for i in 0..n {
+        if !has_few(list[i].invariant) {
             return false;
         }
-        i += 1;
     }
     true
 }
@@ -147,15 +139,10 @@ fn has_few_guards(es: Edges) -> bool
     requires { es.count ≤ edge_limit }
     ensures { result ≡ all es.count (λ i. few (edge_at es.list i).guard) }
 {
-    let edges = es.list;
-    let mut i: usize = 0;
-    while i < es.count {
-        let e = edges[i];
-        let g = e.guard;
-        if COMPARISON_LIMIT < g.count as usize {
+    for i in 0..es.count {
+        if !has_few(es.list[i].guard) {
             return false;
         }
-        i += 1;
     }
     true
 }

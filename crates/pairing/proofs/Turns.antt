@@ -1,16 +1,17 @@
 -- One turn of each search, of the map and of the table, as the code takes them.
 use mathlib.Core.Path.{◌≡◌, sym, ap, ◌∙◌, refl}
 use mathlib.Core.Bool.{true, false, not}
-use mathlib.Core.List.{List, append-nil}
-use Prim.Native.Nat.{ℕ, ◌+◌, ◌*◌, ◌≤◌, ◌<◌}
+use mathlib.Core.List.{List, ◌++◌, append-nil}
+use Prim.Native.Nat.{ℕ, ◌+◌, ◌-◌, ◌*◌, ◌≤◌, ◌<◌}
 use native.Mathlib.Nat.{mul-le-mul_right}
 use native.Mathlib.Omega.{arith}
-use lib.ListN.{length, get_or, set, drop, replicate}
+use lib.ListN.{length, get_or, set, take, drop, length-drop, replicate}
+use Rattle.std.proofs.lemmas.List.{get_or-drop}
 use Rattle.reader_tokens.specs.Scan.{same}
 use Rattle.reader_record.specs.declared.Name.{Name}
 use Rattle.reader_record.specs.declared.Text.{Text}
 use Rattle.bitmaps.specs.Bits.{tab_from, written}
-use Rattle.bitmaps.specs.BitLaws.{written_at, written_past, written_more}
+use Rattle.bitmaps.specs.BitLaws.{written_at, written_past, written_more, written_front, written_same}
 use Rattle.clocks_states.specs.Counts.{times_bound}
 use Rattle.clocks.specs.States.{input}
 use Rattle.pairing.specs.Channels.{name_of, alike, partner, matched, first_unmatched, right_step, verdict, unmatched, pairing}
@@ -106,6 +107,15 @@ pub written_whole : (f : ℕ → ℕ) (n : ℕ) → n ≡ step_limit → written
     ≡ tab_from f 0 step_limit
 unfolding written
 written_whole f n e = rw (e, append-nil)
+
+-- a row that is copied to the front of an array
+pub row_copied : (table d xs : List ℕ) (from width : ℕ) → from + width ≤ length table → width ≤ length d
+    → xs ≡ take (from + width - from) (drop from table) → xs ++ drop width d ≡ written (row_entry table from) width d
+row_copied table d xs from width h k e =
+    let n : from + width - from ≡ width = omega arith in
+    ap (λ (l : List ℕ). l ++ drop width d) (e ∙ ap (λ (i : ℕ). take i (drop from table)) n)
+    ∙ written_front (drop from table) d width (omega (arith, length-drop from table, h))
+    ∙ written_same _ (row_entry table from) width d k (λ i _. get_or-drop from table i 0)
 
 -- a row, entry by entry, from a copy of what stood there
 module _ (table map : List ℕ) (from : ℕ) where

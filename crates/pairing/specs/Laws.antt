@@ -1,10 +1,19 @@
 -- The tests of a channel and the numbers of a step, by cases.
-use Rattle.std.specs.Prelude.{◌≡◌, false, List, ℕ, ◌≤◌, ◌<◌}
+use Rattle.std.specs.Prelude.{◌≡◌, refl, Bool, true, false, List, ℕ, ◌≤◌, ◌<◌}
 use Rattle.std.proofs.Common.{sym, arith}
+use mathlib.Core.Bool.{beq}
 use borrow.Author.Tests.{eq-eqb, ne_eqb, lt-ltb, le-ltb, le-leb, lt-leb}
 use Rattle.reader_record.specs.declared.Text.{Text}
 use Rattle.clocks.specs.States.{input}
 use Rattle.pairing.specs.Channels.{name_of, partner, agree, matched, right_step}
+
+-- two directions agree where they are equal
+pub agree_equal : (a b : Bool) → beq a b ≡ agree a b
+unfolding agree
+agree_equal true true = refl
+agree_equal true false = refl
+agree_equal false true = refl
+agree_equal false false = refl
 
 module _ (s : List ℕ) (l : Text) (u : List ℕ) (r : Text) (c : ℕ) where
   -- the channel is lacking, or there

@@ -4,7 +4,7 @@
 ghost use Rattle.std.specs.Prelude.{◌≡◌, false, ◌+◌, ◌-◌, ◌*◌, ◌≤◌, ◌<◌, length, replicate};
 ghost use Rattle.reader_record.specs.Formed.{WellFormed};
 ghost use Rattle.bitmaps.specs.Bits.{tab_from, written};
-ghost use Rattle.pairing.specs.Channels.{partner, agree, matched, first_unmatched, verdict, right_step, pairing};
+ghost use Rattle.pairing.specs.Channels.{partner, matched, first_unmatched, verdict, right_step, pairing};
 ghost use Rattle.pairing.specs.Only.{only, channels_of};
 ghost use Rattle.pairing.specs.Table.{renumbered, row_entry, Renumbering, RowThere, StepsThere, RowWritten};
 ghost use Rattle.limits.specs.Limits.{channel_limit, step_limit};
@@ -25,7 +25,7 @@ fn channels_of(t: Text) -> Channels
 {
     let list = t.channels;
     Channels {
-        list: list,
+        list,
         count: t.channel_count,
     }
 }
@@ -37,27 +37,14 @@ fn partner_of(s: &[u8], name: Name, u: &[u8], r: Channels) -> usize
 {
     let place = name.place as usize;
     let len = name.len as usize;
-    let mut d: usize = 1;
-    while d <= r.count {
-        let k = r.list[d - 1];
-        let n = k.name;
-        let at = n.place as usize;
-        if reader_tokens::is_same(s, place, len, u, at, n.len as usize) {
+    for d in 1..r.count + 1 {
+        let other = r.list[d - 1].name;
+        let at = other.place as usize;
+        if reader_tokens::is_same(s, place, len, u, at, other.len as usize) {
             return d;
         }
-        d += 1;
     }
     0
-}
-
-// Whether both are inputs, or both are not.
-fn do_agree(a: bool, b: bool) -> bool
-    ensures { result ≡ agree a b }
-{
-    if a {
-        return b;
-    }
-    !b
 }
 
 // Whether the text r has channel c of the text l, and with the same direction.
@@ -65,9 +52,7 @@ fn is_matched(s: &[u8], l: Channels, u: &[u8], r: Channels, c: usize) -> bool
     requires { (l.count ≤ channel_limit) × (r.count ≤ channel_limit) × (0 < c) × (c ≤ l.count) }
     ensures { result ≡ matched s.now (only l) u.now (only r) c }
 {
-    let k = l.list[c - 1];
-    let name = k.name;
-    let d = partner_of(s, name, u, r);
+    let d = partner_of(s, l.list[c - 1].name, u, r);
     if d == 0 {
         return false;
     }
@@ -75,7 +60,7 @@ fn is_matched(s: &[u8], l: Channels, u: &[u8], r: Channels, c: usize) -> bool
     let theirs = r.list;
     let a = clocks_states::is_input_step(ours, l.count, c);
     let b = clocks_states::is_input_step(theirs, r.count, d);
-    do_agree(a, b)
+    a == b
 }
 
 // The lowest channel of the text l without a match in the text r; 0 if there is none.
@@ -83,12 +68,10 @@ fn unmatched_of(s: &[u8], l: Channels, u: &[u8], r: Channels) -> usize
     requires { (l.count ≤ channel_limit) × (r.count ≤ channel_limit) }
     ensures { result ≡ first_unmatched s.now (only l) u.now (only r) }
 {
-    let mut c: usize = 1;
-    while c <= l.count {
+    for c in 1..l.count + 1 {
         if !is_matched(s, l, u, r, c) {
             return c;
         }
-        c += 1;
     }
     0
 }
@@ -120,8 +103,7 @@ fn step_of(s: &[u8], l: Channels, u: &[u8], r: Channels, c: usize) -> usize
         return 0;
     }
     let channel = l.list[c - 1];
-    let name = channel.name;
-    partner_of(s, name, u, r)
+    partner_of(s, channel.name, u, r)
 }
 
 // The right's numbers of the left's steps, from the tick on.
@@ -130,10 +112,8 @@ fn steps_of(s: &[u8], l: Channels, u: &[u8], r: Channels) -> [usize; STEP_LIMIT]
     ensures { result ≡ tab_from (right_step s.now (only l) u.now (only r)) 0 step_limit }
 {
     let mut map = [0; STEP_LIMIT];
-    let mut c: usize = 0;
-    while c < STEP_LIMIT {
+    for c in 0..STEP_LIMIT {
         map[c] = step_of(s, l, u, r, c);
-        c += 1;
     }
     map
 }
@@ -164,11 +144,7 @@ fn row_at(moves: &[u16], from: usize, width: usize) -> [u16; STEP_LIMIT]
     ensures { result ≡ written (row_entry moves.now from) width (replicate step_limit 0) }
 {
     let mut row = [0; STEP_LIMIT];
-    let mut c: usize = 0;
-    while c < width {
-        row[c] = moves[from + c];
-        c += 1;
-    }
+    row[..width].copy_from_slice(&moves[from..from + width]);
     row
 }
 
@@ -178,11 +154,9 @@ fn renumber_row(moves: &mut [u16], map: [usize; STEP_LIMIT], from: usize, width:
     ensures { RowWritten moves.old map from width moves.old moves.new }
 {
     let row = row_at(moves, from, width);
-    let mut c: usize = 0;
-    while c < width {
+    for c in 0..width {
         let d = map[c];
         moves[from + c] = row[d];
-        c += 1;
     }
 }
 
@@ -192,9 +166,7 @@ pub fn renumber(moves: &mut [u16], map: [usize; STEP_LIMIT], n: usize, width: us
     ensures { moves.new ≡ written (renumbered moves.old map width width) (n * width)
         moves.old }
 {
-    let mut row: usize = 0;
-    while row < n {
+    for row in 0..n {
         renumber_row(moves, map, row * width, width);
-        row += 1;
     }
 }

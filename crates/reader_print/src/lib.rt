@@ -1,20 +1,11 @@
 // Prints what reading returns, for programs that show it: a line for the answer, then a line for each item of each list.
 #![tactic(auto)]
 
-use limits::{CHANNEL_LIMIT, CLOCK_LIMIT, COMPARISON_LIMIT, EDGE_LIMIT, LOCATION_LIMIT};
-use reader::Parsed;
-use reader_record::{Assignment, Comparison, Constraint, Direction, Label, Name, Sign, Text};
-use refusals::{Refusal, Verdict};
+use reader_record::{
+    Assignment, Channel, Comparison, Constraint, Direction, Edge, Label, Location, Name, Sign, Text,
+};
+use refusals::Refusal;
 use std::io;
-
-// The lists of a text.
-#[derive(Clone, Copy)]
-enum List {
-    Channels,
-    Clocks,
-    Locations,
-    Edges,
-}
 
 fn put(rt: &impl Print, n: usize) -> io::Result<()> {
     print!(rt; " {n}")
@@ -50,20 +41,9 @@ fn comparison(rt: &impl Print, c: Comparison) -> io::Result<()> {
     put(rt, c.bound as usize)
 }
 
-// The comparison number i of a constraint that has it.
-fn comparison_at(rt: &impl Print, c: Constraint, i: usize) -> io::Result<()> {
-    if c.count as usize <= i {
-        return Ok(());
-    }
-    if COMPARISON_LIMIT <= i {
-        return Ok(());
-    }
-    comparison(rt, c.comparisons[i])
-}
-
 fn constraint(rt: &impl Print, c: Constraint) -> io::Result<()> {
-    for i in 0..COMPARISON_LIMIT {
-        comparison_at(rt, c, i)?;
+    for x in c.comparisons.iter().take(c.count as usize) {
+        comparison(rt, *x)?;
     }
     Ok(())
 }
@@ -81,41 +61,20 @@ fn label(rt: &impl Print, l: Label) -> io::Result<()> {
     }
 }
 
-// The channel number i of a text that has it, and so for the clocks, the locations and the edges.
-fn channel(rt: &impl Print, t: Text, i: usize) -> io::Result<()> {
-    if t.channel_count <= i {
-        return Ok(());
-    }
-    if CHANNEL_LIMIT <= i {
-        return Ok(());
-    }
-    let c = t.channels[i];
+fn channel(rt: &impl Print, c: Channel) -> io::Result<()> {
     rt.print("  channel")?;
     name(rt, c.name)?;
     direction(rt, c.direction)?;
     rt.print("\n")
 }
 
-fn clock(rt: &impl Print, t: Text, i: usize) -> io::Result<()> {
-    if t.clock_count <= i {
-        return Ok(());
-    }
-    if CLOCK_LIMIT <= i {
-        return Ok(());
-    }
+fn clock(rt: &impl Print, n: Name) -> io::Result<()> {
     rt.print("  clock")?;
-    name(rt, t.clocks[i])?;
+    name(rt, n)?;
     rt.print("\n")
 }
 
-fn location(rt: &impl Print, t: Text, i: usize) -> io::Result<()> {
-    if t.location_count <= i {
-        return Ok(());
-    }
-    if LOCATION_LIMIT <= i {
-        return Ok(());
-    }
-    let l = t.locations[i];
+fn location(rt: &impl Print, l: Location) -> io::Result<()> {
     rt.print("  location")?;
     name(rt, l.name)?;
     constraint(rt, l.invariant)?;
@@ -123,7 +82,7 @@ fn location(rt: &impl Print, t: Text, i: usize) -> io::Result<()> {
 }
 
 // A clock that is assigned, its value and the largest one written.
-fn assignment(rt: &impl Print, a: Assignment, clock: usize) -> io::Result<()> {
+fn assignment(rt: &impl Print, clock: usize, a: Assignment) -> io::Result<()> {
     if a.made {
         rt.print(" assign")?;
         put(rt, clock)?;
@@ -133,44 +92,31 @@ fn assignment(rt: &impl Print, a: Assignment, clock: usize) -> io::Result<()> {
     Ok(())
 }
 
-// What an edge does to the clocks.
-fn assignments(rt: &impl Print, all: [Assignment; CLOCK_LIMIT]) -> io::Result<()> {
-    for i in 0..CLOCK_LIMIT {
-        assignment(rt, all[i], i)?;
-    }
-    Ok(())
-}
-
-fn edge(rt: &impl Print, t: Text, i: usize) -> io::Result<()> {
-    if t.edge_count <= i {
-        return Ok(());
-    }
-    if EDGE_LIMIT <= i {
-        return Ok(());
-    }
-    let e = t.edges[i];
+fn edge(rt: &impl Print, e: Edge) -> io::Result<()> {
     rt.print("  edge")?;
     put(rt, e.source as usize)?;
     put(rt, e.target as usize)?;
     label(rt, e.label)?;
     constraint(rt, e.guard)?;
-    assignments(rt, e.assignments)?;
+    for (clock, a) in e.assignments.iter().enumerate() {
+        assignment(rt, clock, *a)?;
+    }
     rt.print("\n")
 }
 
-fn item(rt: &impl Print, t: Text, k: List, i: usize) -> io::Result<()> {
-    match k {
-        List::Channels => channel(rt, t, i),
-        List::Clocks => clock(rt, t, i),
-        List::Locations => location(rt, t, i),
-        List::Edges => edge(rt, t, i),
+// A line for each item of each list.
+fn items(rt: &impl Print, t: Text) -> io::Result<()> {
+    for c in t.channels.iter().take(t.channel_count) {
+        channel(rt, *c)?;
     }
-}
-
-// A line for each item of a list; no list is longer than that of the edges may be.
-fn items(rt: &impl Print, t: Text, k: List) -> io::Result<()> {
-    for i in 0..EDGE_LIMIT {
-        item(rt, t, k, i)?;
+    for n in t.clocks.iter().take(t.clock_count) {
+        clock(rt, *n)?;
+    }
+    for l in t.locations.iter().take(t.location_count) {
+        location(rt, *l)?;
+    }
+    for e in t.edges.iter().take(t.edge_count) {
+        edge(rt, *e)?;
     }
     Ok(())
 }
@@ -183,26 +129,23 @@ fn accepted(rt: &impl Print, t: Text) -> io::Result<()> {
     put(rt, t.edge_count)?;
     put(rt, t.init)?;
     rt.print("\n")?;
-    items(rt, t, List::Channels)?;
-    items(rt, t, List::Clocks)?;
-    items(rt, t, List::Locations)?;
-    items(rt, t, List::Edges)
+    items(rt, t)
 }
 
 fn refused(rt: &impl Print, f: Refusal) -> io::Result<()> {
     rt.print(" refused")?;
-    put(rt, f.code)?;
-    put(rt, f.file)?;
-    put(rt, f.p)?;
-    put(rt, f.q)?;
+    put(rt, f.code())?;
+    put(rt, f.file().mark())?;
+    put(rt, f.p())?;
+    put(rt, f.q())?;
     rt.print("\n")
 }
 
 // ` refused` code file p q, or ` accepted`, the counts of channels, clocks, locations and edges and the init
 // location, and every item of each list.
-pub fn print(rt: &impl Print, p: Parsed) -> io::Result<()> {
-    match p.answer {
-        Verdict::Accepted => accepted(rt, p.text),
-        Verdict::Refused(f) => refused(rt, f),
+pub fn print(rt: &impl Print, read: Result<Text, Refusal>) -> io::Result<()> {
+    match read {
+        Ok(t) => accepted(rt, t),
+        Err(f) => refused(rt, f),
     }
 }

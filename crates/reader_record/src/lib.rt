@@ -2,7 +2,7 @@
 #![tactic(auto)]
 
 ghost use Rattle.std.specs.Prelude.{◌≡◌};
-ghost use Rattle.reader_record.specs.Record.{no_assignment};
+ghost use Rattle.reader_record.specs.Record.{channel, no_assignment};
 
 use limits::{CHANNEL_LIMIT, CLOCK_LIMIT, COMPARISON_LIMIT, EDGE_LIMIT, LOCATION_LIMIT};
 
@@ -65,6 +65,18 @@ pub struct Location {
 pub enum Label {
     Input(u8),
     Output(u8),
+}
+
+impl Label {
+    // The channel of the label, from 1.
+    #[tactic(auto, unfolding(crate::specs::Record::channel))]
+    pub fn channel(self) -> usize
+        ensures { result ≡ channel self }
+    {
+        match self {
+            Label::Input(c) | Label::Output(c) => usize::from(c),
+        }
+    }
 }
 
 // What an edge does to a clock (SPECIFICATION 5.4): whether it assigns the clock, the value that it assigns, which is

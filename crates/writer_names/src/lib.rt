@@ -20,6 +20,7 @@ const TEN: usize = 10;
 const ZERO: u8 = b'0';
 
 // Whether b is the last of len bytes from `place` on. Where len is 0 it is not.
+#[tactic(auto, unfolding(crate::specs::Names::is_last))]
 fn is_last(s: &[u8], place: usize, len: usize, b: u8) -> bool
     requires { place + len ≤ length s.now }
     ensures { result ≡ is_last s.now place len b }
@@ -38,12 +39,10 @@ fn are_underscores(s: &[u8], place: usize, len: usize, u: usize) -> bool
     if len != u {
         return false;
     }
-    let mut left = len;
-    while 0 < left {
-        if !is_last(s, place, left, UNDERSCORE) {
+    for left in (0..len).rev() {
+        if !is_last(s, place, left + 1, UNDERSCORE) {
             return false;
         }
-        left -= 1;
     }
     true
 }
@@ -86,14 +85,11 @@ fn is_taken(
     requires { (count ≤ channel_limit) × NamesInside s.now channels count }
     ensures { result ≡ is_taken s.now channels count letter u i }
 {
-    let mut k: usize = 0;
-    while k < count {
-        let channel = channels[k];
-        let name = channel.name;
+    for k in 0..count {
+        let name = channels[k].name;
         if is_called(s, name.place as usize, name.len as usize, letter, u, i) {
             return true;
         }
-        k += 1;
     }
     false
 }
@@ -110,17 +106,16 @@ fn is_any_taken(
     requires { (count ≤ channel_limit) × NamesInside s.now channels count }
     ensures { result ≡ any n (is_taken s.now channels count letter u) }
 {
-    let mut i: usize = 0;
-    while i < n {
+    for i in 0..n {
         if is_taken(s, channels, count, letter, u, i) {
             return true;
         }
-        i += 1;
     }
     false
 }
 
 // Whether with u underscores a name that is written is a channel's.
+#[tactic(auto, unfolding(written::specs::Underscores::clashes, written::specs::Written::called))]
 fn does_clash(
     s: &[u8],
     channels: [Channel; CHANNEL_LIMIT],
@@ -132,13 +127,9 @@ fn does_clash(
     requires { (count ≤ channel_limit) × NamesInside s.now channels count }
     ensures { result ≡ clashes (names_in s.now channels count) count clocks locations u }
 {
-    if is_taken(s, channels, count, PROCESS, u, ONLY_PROCESS) {
-        return true;
-    }
-    if is_any_taken(s, channels, count, CLOCK, u, clocks) {
-        return true;
-    }
-    is_any_taken(s, channels, count, LOCATION, u, locations)
+    is_taken(s, channels, count, PROCESS, u, ONLY_PROCESS)
+        || is_any_taken(s, channels, count, CLOCK, u, clocks)
+        || is_any_taken(s, channels, count, LOCATION, u, locations)
 }
 
 // The fewest underscores with which no name that is written is a channel's.
@@ -152,12 +143,10 @@ pub fn underscores(
     requires { (count ≤ channel_limit) × NamesInside s.now channels count }
     ensures { result ≡ underscores (names_in s.now channels count) count clocks locations }
 {
-    let mut u: usize = 0;
-    while u <= count {
+    for u in 0..count + 1 {
         if !does_clash(s, channels, count, clocks, locations, u) {
             return u;
         }
-        u += 1;
     }
-    u
+    count + 1
 }

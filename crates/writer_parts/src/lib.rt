@@ -81,15 +81,6 @@ fn put_mark(out: &mut [u8], at: usize, label: Label) -> usize
     }
 }
 
-#[tactic(auto, unfolding(reader_record::specs::Record::channel))]
-fn channel_of(label: Label) -> usize
-    ensures { result ≡ channel label }
-{
-    match label {
-        Label::Input(c) | Label::Output(c) => usize::from(c),
-    }
-}
-
 // The name of channel i, from 0, of the first `count`, as the text s spells it.
 pub fn put_channel(
     out: &mut [u8],
@@ -123,7 +114,7 @@ fn put_label(
         out.new result }
 {
     let start = put_token(out, at, b"sync");
-    let c = channel_of(label);
+    let c = label.channel();
     let name = put_channel(out, start, s, channels, count, c - 1);
     let mark = put_mark(out, name, label);
     put_token(out, mark, b";")

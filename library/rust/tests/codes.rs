@@ -51,14 +51,14 @@ fn numbers_and_names() {
     assert_eq!(plain, here());
 }
 
-/// The proved crates' definitions: a line `name .. = record { code = n; ..`.
+/// The proved crates' definition of the code: a line `code (Name ..) = n` for each.
 #[test]
 fn definitions_have_them_too() {
     let text = file("crates/refusals/specs/Refusals.antt");
     let item = |line: &str| {
-        let number = between(line, "= record { code = ", ";")?.parse().ok()?;
-        let name = line.split_whitespace().next()?;
-        Some((name.to_ascii_uppercase(), number))
+        let (refusal, number) = line.strip_prefix("code ")?.split_once(" = ")?;
+        let name = refusal.trim_matches(['(', ')']).split_whitespace().next()?;
+        Some((in_capitals(name), number.parse().ok()?))
     };
     assert_eq!(text.lines().filter_map(item).collect::<Vec<(String, usize)>>(), here());
 }

@@ -1,5 +1,4 @@
 -- The states are counted from the ranges of the clocks.
-use borrow.Author.Rules.{rules}
 use Rattle.clocks_states.specs.Laws.{counted, count_is}
 use Rattle.joining.proofs.states_of.Goals as goal
 

@@ -1,5 +1,4 @@
 -- The text is put into the array; it is too long, or the slice is too short, or it is copied.
-use borrow.Author.Rules.{rules}
 use mathlib.Core.Path.{sym}
 use native.Mathlib.Omega.{arith}
 use lib.Seq.{length-take-le}
@@ -13,7 +12,7 @@ returns-then-n-gt-LARGEST_TEXT c =
     let put = c.put_text-n in
     text_over _ c.no_bytes-text.ensures
     (text_put args.s.now args.t c.underscores-u.ensures
-    put.ensures) args.out.now c.limit_exceeded.ensures c.if-n-gt-LARGEST_TEXT.true
+    put.ensures) args.out.now c.if-n-gt-LARGEST_TEXT.true
 
 pub returns-then-out-n : goal.returns-then-out-n
 returns-then-out-n c =
@@ -22,7 +21,7 @@ returns-then-out-n c =
     text_short _ c.no_bytes-text.ensures
     (text_put args.s.now args.t
     c.underscores-u.ensures put.ensures) args.out.now
-    c.out_too_short.ensures c.if-n-gt-LARGEST_TEXT.false c.if-out-n.true
+    c.if-n-gt-LARGEST_TEXT.false c.if-out-n.true
 
 pub slice_bounds-put_bytes-end : goal.slice_bounds-put_bytes-end
 slice_bounds-put_bytes-end c =

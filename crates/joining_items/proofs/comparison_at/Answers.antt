@@ -4,7 +4,6 @@ use Prim.Native.Nat.{◌-◌}
 use Rattle.joined.proofs.Formed.{both_left}
 use Rattle.joining_items.specs.Laws.{both_behind}
 use native.Mathlib.Omega.{arith}
-use borrow.Author.Rules.{rules}
 use Rattle.joining_items.proofs.comparison_at.Goals as goal
 
 pub returns-then-i-first : goal.returns-then-i-first
@@ -14,9 +13,11 @@ returns-then-i-first c =
 pub shifted-requires : goal.shifted-requires
 shifted-requires c =
     let a = c.args in
+    rw c.from-first.ensures
     (c.requires.0.left_clocks, c.requires.0.clocks (a.i - a.g.count) (omega (arith, c.requires.2)))
 
 pub returns : goal.returns
 returns c =
     let a = c.args in
-    c.shifted.ensures ∙ sym (both_behind a.n a.g a.h a.i (omega arith) (omega (arith, c.requires.2)))
+    rw c.from-first.ensures at c.shifted.ensures
+    ∙ sym (both_behind a.n a.g a.h a.i (omega arith) (omega (arith, c.requires.2)))

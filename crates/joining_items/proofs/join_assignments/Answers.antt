@@ -1,5 +1,4 @@
 -- join_assignments: three assignments that are right are all.
-use borrow.Author.Rules.{rules}
 use Rattle.joining_items.specs.Laws.{three_assignments}
 use Rattle.joining_items.proofs.join_assignments.Goals as goal
 

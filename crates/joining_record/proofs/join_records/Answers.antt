@@ -1,7 +1,6 @@
 -- join_records: too many clocks or pairs of locations refute `counts_fit`; else join_within has its requirements.
 use Rattle.joining_edges.specs.Edges.{by_map}
 use Rattle.joining_record.specs.Laws.{over_clocks, over_locations, pairs_small, joins_not}
-use borrow.Author.Rules.{rules}
 use native.Mathlib.Omega.{arith}
 use Rattle.joining_record.proofs.join_records.Goals as goal
 

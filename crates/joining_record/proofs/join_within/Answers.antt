@@ -3,8 +3,6 @@ use mathlib.Core.Path.{sym, ◌∙◌}
 use Rattle.joined.specs.Joined.{joined_edges}
 use Rattle.joining_edges.specs.Edges.{by_map}
 use Rattle.joining_record.specs.Laws.{over_edges, over_invariants, over_guards, start_small, built_fits, built_alike, built_names, joins_not, fits_true}
-use borrow.Author.Tests.{not-true, not-false}
-use borrow.Author.Rules.{rules}
 use native.Mathlib.Omega.{arith}
 use Rattle.joining_record.proofs.join_within.Goals as goal
 

@@ -1,10 +1,9 @@
 -- `is_matched` is `matched`: lacking where the partner is 0, else by the directions.
-use borrow.Author.Rules.{rules}
 use mathlib.Core.Path.{sym, ◌∙◌}
 use Rattle.clocks.specs.States.{input}
 use Rattle.clocks_states.specs.Parts.{channel_input}
 use Rattle.pairing.specs.Only.{only}
-use Rattle.pairing.specs.Laws.{matched_none, matched_some}
+use Rattle.pairing.specs.Laws.{agree_equal, matched_none, matched_some}
 use Rattle.pairing.proofs.is_matched.Goals as goal
 
 pub returns-then-d-eq0 : goal.returns-then-d-eq0
@@ -16,7 +15,6 @@ pub returns : goal.returns
 unfolding input channel_input
 returns c =
     let a = c.args in
-    let d = c.partner_of-d.ensures in
-    c.do_agree.ensures
+    agree_equal c.is_input_step-a.result c.is_input_step-b.result
     ∙ rw (c.is_input_step-a.ensures, c.is_input_step-b.ensures)
-    (sym (matched_some a.s.now (only a.l) a.u.now (only a.r) a.c _ d c.if-d-eq0.false))
+    (sym (matched_some a.s.now (only a.l) a.u.now (only a.r) a.c _ c.partner_of-d.ensures c.if-d-eq0.false))

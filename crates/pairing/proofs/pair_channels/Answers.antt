@@ -32,8 +32,8 @@ returns-in_err-verdict_of c =
     let (why, is_err, passed) = err_from_is_err_and c.from_residual.result c.from_residual.ensures.1 in
     is_err ∙ ap (λ (r : Refusal). Err r) passed
     ∙ pairing_refused args.left.now args.l args.right.now args.r _ _ c.channels_of-ours.ensures
-        c.channels_of-theirs.ensures _ _ c.unmatched_of-c.ensures c.unmatched_of-d.ensures c.verdict_of.result _
-        c.verdict_of.ensures c.in_err-verdict_of.was
+    c.channels_of-theirs.ensures _ _ c.unmatched_of-c.ensures c.unmatched_of-d.ensures c.verdict_of.result _
+    c.verdict_of.ensures c.in_err-verdict_of.was
 
 pub returns : goal.returns
 returns c =

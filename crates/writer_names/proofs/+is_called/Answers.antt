@@ -1,5 +1,4 @@
 -- The last digit, then the letter or the digits before it: those are the digits of a tenth of the number.
-use native.Mathlib.Omega.{arith}
 use mathlib.Core.Path.{sym, ◌∙◌}
 use Rattle.writer_names.proofs.Words.{last_digit, last_some, digit_no, digit_one, digit_more}
 use Rattle.writer_names.proofs.+is_called.Goals as goal

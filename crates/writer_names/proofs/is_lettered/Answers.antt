@@ -1,8 +1,6 @@
 -- The letter, and the underscores before it.
-use borrow.Author.Rules.{rules}
 use mathlib.Core.Path.{sym, ◌∙◌}
 use lib.ListN.{replicate}
-use borrow.Author.Tests.{not-true, not-false}
 use Rattle.writer_tokens.specs.Tokens.{underscore}
 use Rattle.writer_names.proofs.Words.{last_no, last_yes, last_some}
 use Rattle.writer_names.proofs.is_lettered.Goals as goal

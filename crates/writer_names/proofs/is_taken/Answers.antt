@@ -1,24 +1,19 @@
 -- None of the first k channels has the name.
-use borrow.Author.Rules.{rules}
 use native.Mathlib.Omega.{arith}
 use mathlib.Core.Path.{◌≡◌, sym, ◌∙◌}
-use mathlib.Core.Bool.{false}
-use Prim.Native.Nat.{◌-◌, ◌≤◌}
-use Rattle.systems.specs.Tests.{any}
 use Rattle.writer_tokens.specs.Tokens.{called_by}
 use Rattle.writer_names.proofs.Loops.{any_none, any_more, any_hits}
 use Rattle.writer_names.proofs.Taken.{is_named, taken_any}
-use Rattle.writer_names.proofs.is_taken.Invariants.{invariant-loop-k, decreases-loop-k}
 use Rattle.writer_names.proofs.is_taken.Goals as goal
 
 pub loop-k-init : goal.loop-k-init
-loop-k-init c = (omega arith, any_none _)
+loop-k-init c = any_none _
 
 pub is_called-requires : goal.is_called-requires
 is_called-requires c =
     let loop = c.loop-k in
     c.requires.1 loop.k
-    c.loop-k-test.true
+    (omega arith)
 
 pub returns-then-is_called : goal.returns-then-is_called
 returns-then-is_called c =
@@ -27,18 +22,16 @@ returns-then-is_called c =
     let w = called_by args.letter args.u args.i in
     sym (taken_any args.s.now args.channels args.count w
     ∙ any_hits (is_named args.s.now args.channels w) loop.k args.count
-    c.loop-k-test.true
+    (omega arith)
     (sym c.is_called.ensures ∙ c.if-is_called.true))
 
 pub loop-k-preserved : goal.loop-k-preserved
 loop-k-preserved c =
     let loop = c.loop-k in
     let args = c.args in
-    let w = called_by args.letter args.u args.i in (
-      omega arith,
-      any_more (is_named args.s.now args.channels w) loop.k loop.invariant.1
-          (sym c.is_called.ensures ∙ c.if-is_called.false),
-    )
+    let w = called_by args.letter args.u args.i in
+    any_more (is_named args.s.now args.channels w) loop.k loop.invariant
+    (sym c.is_called.ensures ∙ c.if-is_called.false)
 
 pub returns : goal.returns
 returns c =
@@ -46,4 +39,4 @@ returns c =
     let args = c.args in
     let w = called_by args.letter args.u args.i in
     let e : loop.k ≡ args.count = omega arith in
-    sym (taken_any args.s.now args.channels args.count w ∙ (rw e at loop.invariant.1))
+    sym (taken_any args.s.now args.channels args.count w ∙ (rw e at loop.invariant))

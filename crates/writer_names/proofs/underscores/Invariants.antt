@@ -1,25 +1,17 @@
 -- With fewer than u underscores some name is a channel's.
-use borrow.Author.Rules.{rules}
-use native.Mathlib.Omega.{arith}
-use native.Mathlib.Numerals.{unary_clauses}
-use mathlib.Core.Path.{◌≡◌, sym, ap, ◌∙◌}
+use mathlib.Core.Path.{◌≡◌}
 use mathlib.Core.Bool.{Bool, not}
 use mathlib.Core.List.{List}
-use Prim.Native.Nat.{ℕ, suc, ◌-◌, ◌≤◌}
+use Prim.Native.Nat.{ℕ, suc, ◌-◌}
 use Rattle.systems.specs.Tests.{least}
 use Rattle.reader_record.specs.declared.Channel.{Channel}
-use Rattle.written.specs.Underscores.{clashes, underscores}
+use Rattle.written.specs.Underscores.{clashes}
 use Rattle.written_names.specs.Inside.{names_in}
-use Rattle.writer_names.proofs.Loops.{least_yes, least_no, least_end}
 use Rattle.writer_names.proofs.underscores.Given as goal
 
 abbrev pub free : List ℕ → List Channel → ℕ → ℕ → ℕ → ℕ → Bool
 free s channels count clocks locations u = not (clashes (names_in s channels count) count clocks locations u)
 
 abbrev pub invariant-loop-u : goal.invariant-loop-u
-invariant-loop-u l = (l.u ≤ suc l.count)
-    × (least (free l.s l.channels l.count l.clocks l.locations) l.u (suc l.count - l.u)
-    ≡ least (free l.s l.channels l.count l.clocks l.locations) 0 (suc l.count))
-
-abbrev pub decreases-loop-u : goal.decreases-loop-u
-decreases-loop-u l = suc l.count - l.u
+invariant-loop-u l = least (free l.s l.channels l.count l.clocks l.locations) l.u (suc l.count - l.u)
+    ≡ least (free l.s l.channels l.count l.clocks l.locations) 0 (suc l.count)

@@ -7,5 +7,5 @@ pub returns : goal.returns
 unfolding label_tokens
 returns c =
     tokens_then c.put_token-start.ensures (tokens_then
-    (rw c.channel_of-c.ensures at c.put_channel-name.ensures) (tokens_then c.put_mark-mark.ensures
+    (rw c.channel-c.ensures at c.put_channel-name.ensures) (tokens_then c.put_mark-mark.ensures
     c.put_token.ensures))

@@ -1,9 +1,0 @@
--- `random_joins::is_untouched` is safe and ends.
-use Rattle.std.proofs.Common.{◌-◌, ◌≤◌, rules}
-use Rattle.random_joins.proofs.is_untouched.Given as goal
-
-abbrev pub invariant-loop-i : goal.invariant-loop-i
-invariant-loop-i l = l.i ≤ l.i-end
-
-abbrev pub decreases-loop-i : goal.decreases-loop-i
-decreases-loop-i l = l.i-end - l.i
