@@ -1,6 +1,6 @@
 -- What milliseconds come to in ticks (SPECIFICATION 4.7): the nearest whole number; themselves at tick length 1; and
 -- too many, at every tick length, where the numeral is above the largest one.
-use Rattle.std.specs.Prelude.{◌≡◌, refl, ℕ, ◌+◌, ◌*◌, ◌/◌, ◌≤◌, ◌<◌}
+use Rattle.std.specs.Prelude.{◌≡◌, refl, ℕ, ◌+◌, ◌*◌, ◌≤◌, ◌<◌}
 use Rattle.std.proofs.Common.{div-mul-le_self, le-div_iff_mul-le, arith}
 use Rattle.std.proofs.Math.Nat.{lt-div-mul-add}
 use Rattle.reader_tokens.specs.Scan.{over_numeral, clamped}

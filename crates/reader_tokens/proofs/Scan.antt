@@ -1,6 +1,8 @@
 -- Laws of `run`, `past`, `agree` and `numeral_value`: one step, and the end.
 use mathlib.Core.Path.{◌≡◌, refl, ap, ◌∙◌, sym}
 use mathlib.Core.Bool.{Bool, true, false}
+use Rattle.std.specs.Prelude.{cond, eqb, take, min}
+use Rattle.std.proofs.lemmas.List.{drop_min, length-drop, take_all}
 use mathlib.Core.List.{List, [], ◌∷◌}
 use Prim.Native.Nat.{ℕ, zero, suc, ◌+◌, ◌-◌, ◌*◌, ◌<◌, ◌≤◌}
 use native.Mathlib.Numerals.{add-one}
@@ -26,18 +28,41 @@ pub past_end : {A : Type 0} (p : A → Bool) (s : List A) (i : ℕ) → length s
 unfolding run past
 past_end p s i h = rw (drop_of_length-le s h) (omega arith)
 
+-- what is left of a list from p on, as the code has it
+pub rest : (p : ℕ) (s : List ℕ) → take (length s - min p (length s)) (drop (min p (length s)) s) ≡ drop p s
+rest p s =
+    let l : length (drop p s) ≡ length s - p = length-drop p s in
+    rw (drop_min p s) (take_all (length s - min p (length s)) (drop p s) (omega arith))
+
+-- `agree` where a list is too short, and where both are long enough
+pub agree_short : (n : ℕ) (x y : List ℕ) → length x < n → agree n x y ≡ false
+unfolding agree
+agree_short zero x y h = absurd (omega arith)
+agree_short (suc n) [] y h = refl
+agree_short (suc n) (a ∷ x) [] h = refl
+agree_short (suc n) (a ∷ x) (b ∷ y) h =
+    let k : suc (length x) < suc n = h in
+    rw (agree_short n x y (omega arith)) (by (eqb a b))
+  where
+    by : (t : Bool) → cond t false false ≡ false
+    by true = refl
+    by false = refl
+
+pub agree_no_more : (n : ℕ) (x y : List ℕ) → length y < n → agree n x y ≡ false
+unfolding agree
+agree_no_more zero x y h = absurd (omega arith)
+agree_no_more (suc n) [] y h = refl
+agree_no_more (suc n) (a ∷ x) [] h = refl
+agree_no_more (suc n) (a ∷ x) (b ∷ y) h =
+    let k : suc (length y) < suc n = h in
+    rw (agree_no_more n x y (omega arith)) (by (eqb a b))
+  where
+    by : (t : Bool) → cond t false false ≡ false
+    by true = refl
+    by false = refl
+
 -- one step of `agree`, where n bytes are left to compare
 module _ (s : List ℕ) (i : ℕ) (t : List ℕ) (j : ℕ) where
-  pub agree_left : (n : ℕ) → 0 < n → length s ≤ i → agree n (drop i s) (drop j t) ≡ false
-  unfolding agree
-  agree_left zero h l = absurd (omega arith)
-  agree_left (suc n) h l = rw (drop_of_length-le s l)
-
-  pub agree_right : (n : ℕ) → 0 < n → i < length s → length t ≤ j → agree n (drop i s) (drop j t) ≡ false
-  unfolding agree
-  agree_right zero h l k = absurd (omega arith)
-  agree_right (suc n) h l k = rw (drop-cons s i 0, drop_of_length-le t k)
-
   module _ (l : i < length s) (k : j < length t) where
     pub agree_no : (n : ℕ) → 0 < n → (get_or s i 0 ≡ get_or t j 0 → ⊥) → agree n (drop i s) (drop j t) ≡ false
     unfolding agree

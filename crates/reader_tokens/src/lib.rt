@@ -155,22 +155,18 @@ fn run_end(s: &[u8], at: usize, c: Class) -> usize
 fn agrees(s: &[u8], p: usize, t: &[u8], q: usize, n: usize) -> bool
     ensures { result ≡ agree n (drop p s.now) (drop q t.now) }
 {
-    let mut i = p;
-    let mut j = q;
-    let mut left = n;
-    while 0 < left {
-        if s.len() <= i {
+    let x = &s[p.min(s.len())..];
+    let y = &t[q.min(t.len())..];
+    if x.len() < n {
+        return false;
+    }
+    if y.len() < n {
+        return false;
+    }
+    for k in 0..n {
+        if x[k] != y[k] {
             return false;
         }
-        if t.len() <= j {
-            return false;
-        }
-        if s[i] != t[j] {
-            return false;
-        }
-        i += 1;
-        j += 1;
-        left -= 1;
     }
     true
 }

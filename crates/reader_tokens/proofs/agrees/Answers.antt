@@ -1,31 +1,33 @@
--- `agrees` is `agree`: the bytes that are left to compare decide.
-use native.Mathlib.Omega.{arith}
-use mathlib.Core.Path.{sym, ◌∙◌}
-use Rattle.reader_tokens.proofs.Scan.{agree_left, agree_right, agree_no, agree_yes, agree_none}
+-- `agrees` is `agree`: where a list is too short, and by the bytes that are left to compare.
+use Rattle.std.proofs.Common.{◌≡◌, ◌-◌, ◌+◌, arith, sym, ◌∙◌}
+use Rattle.reader_tokens.proofs.Scan.{rest, agree_short, agree_no_more, agree_no, agree_yes, agree_none}
 use Rattle.reader_tokens.proofs.agrees.Goals as goal
 
-pub returns-then-s-i : goal.returns-then-s-i
-returns-then-s-i c = sym (agree_left _ c.loop-left.i _ c.loop-left.j
-    c.loop-left.left (omega arith) (omega arith)) ∙ c.loop-left.invariant
+pub returns-then-x-n : goal.returns-then-x-n
+returns-then-x-n c =
+    sym (agree_short c.args.n _ _ (rw (c.min.ensures, rest c.args.p c.args.s.now) at c.if-x-n.true))
 
-pub returns-then-t-j : goal.returns-then-t-j
-returns-then-t-j c =
-    let loop = c.loop-left in
-    sym (agree_right _ loop.i _ loop.j
-    loop.left (omega arith) (omega arith) (omega arith))
-    ∙ loop.invariant
+pub returns-then-y-n : goal.returns-then-y-n
+returns-then-y-n c =
+    sym (agree_no_more c.args.n _ _ (rw (c.min-2.ensures, rest c.args.q c.args.t.now) at c.if-y-n.true))
 
-pub returns-then-s-i-2 : goal.returns-then-s-i-2
-returns-then-s-i-2 c = sym (agree_no _ c.loop-left.i _
-    c.loop-left.j (omega arith) (omega arith)
-    c.loop-left.left (omega arith) c.if-s-i-2.true)
-    ∙ c.loop-left.invariant
+pub loop-k-init : goal.loop-k-init
+loop-k-init c =
+    let all : c.args.n - 0 ≡ c.args.n = omega arith in
+    rw (all, c.min.ensures, c.min-2.ensures, rest c.args.p c.args.s.now, rest c.args.q c.args.t.now)
 
-pub loop-left-preserved : goal.loop-left-preserved
-loop-left-preserved c = sym (agree_yes _ c.loop-left.i _
-    c.loop-left.j (omega arith) (omega arith)
-    c.loop-left.left (omega arith) c.if-s-i-2.false)
-    ∙ c.loop-left.invariant
+pub returns-then-x-k : goal.returns-then-x-k
+returns-then-x-k c =
+    let k = c.loop-k.k in
+    sym (agree_no _ k _ k (omega arith) (omega arith) (c.args.n - k) (omega arith) c.if-x-k.true) ∙ c.loop-k.invariant
+
+pub loop-k-preserved : goal.loop-k-preserved
+loop-k-preserved c =
+    let k = c.loop-k.k in
+    let one : c.args.n - k - 1 ≡ c.args.n - (k + 1) = omega arith in
+    rw (← one) (sym (agree_yes _ k _ k (omega arith) (omega arith) (c.args.n - k) (omega arith) c.if-x-k.false)
+    ∙ c.loop-k.invariant)
 
 pub returns : goal.returns
-returns c = sym (agree_none c.loop-left.left _ _ (omega arith)) ∙ c.loop-left.invariant
+returns c =
+    sym (agree_none (c.args.n - c.loop-k.k) _ _ (omega arith)) ∙ c.loop-k.invariant
