@@ -5,7 +5,7 @@ use Rattle.limits.specs.Limits.{keep_limit}
 use Rattle.reader_examples.specs.Texts.{post, rearm, hush}
 use Rattle.reader_examples.specs.Records.{rearm_record}
 use Rattle.systems.specs.Definitions.{tick}
-use Rattle.clocks_read.specs.declared.Reading.{Reading}
+use Rattle.clocks_read.specs.Reading.{text_in}
 use Rattle.search.specs.Outcome.{Outcome}
 use Rattle.byte_slices.specs.Decimal.{ascii, decimal, digits, digit}
 use Rattle.guarantees_starred.specs.Sentences.{Room, widest_raster, ten_by_ten}
@@ -44,7 +44,7 @@ unfolding megzhoi_prints search_lines
 rearm_lines =
     let (a, r) = starred_posts.rearm_post (zeros keep_limit) entries entries (zeros entries) (enough 5 (omega arith)) in
     rw (a, r)
-    (ap (λ (o : Reading). departure_lines rearm o.text.channels 5 (departure ++ drop 5 (zeros entries)))
+    (ap (λ o. departure_lines rearm (text_in o).channels 5 (departure ++ drop 5 (zeros entries)))
     rearm_known.read ∙ departs (drop 5 (zeros entries)))
 
 post_lines : megzhoi_prints post post ≡ ascii "YES 29\n"

@@ -1,10 +1,10 @@
 -- What program megzhoi's lines mean: for any two files, what it prints is one of the answers of specs/Answers.antt
--- (SPECIFICATION 17.5). A theorem from the demands.
-use Rattle.std.specs.Prelude.{◌≡◌, ◌⊎◌, length}
+-- (SPECIFICATION 17.5). A theorem from SPECIFICATION 17.1 to 17.3.
+use Rattle.std.specs.Prelude.{◌≡◌, length, Ok}
 use Rattle.std.proofs.Math.Path.{refl, ap, subst}
 use Rattle.std.proofs.Common.{sym, ◌∙◌, ne_eqb, take_all}
 use Rattle.std.proofs.Math.Logic.{⊎_elim}
-use Rattle.std.proofs.Math.Bool.{true}
+use Rattle.std.proofs.Math.Bool.{Bool, true}
 use Rattle.std.proofs.Math.Option.{Option, none, some}
 use mathlib.Core.List.{List, [], ◌∷◌, ◌++◌}
 use Prim.Native.Nat.{ℕ, ◌*◌, ◌≤◌, ◌<◌}
@@ -17,11 +17,9 @@ use Rattle.systems.specs.Definitions.{LargestSafeSet, ShortestDeparture}
 use Rattle.bitmaps.specs.Packed.{bytes_for}
 use Rattle.bitmaps.specs.BitLaws.{less}
 use Rattle.two_texts.specs.Two.{text_of, two_judged}
-use Rattle.search.specs.declared.SearchAnswer.TheVariants as search_answer
 use Rattle.search.specs.Outcome.{Outcome}
-use Rattle.tables.specs.declared.WidestAnswer.TheVariants as made
 use Rattle.two_operations.specs.Outcome.{search_outcome, widest_outcome}
-use Rattle.demands.specs.Words.{Consistent, search_refusal, widest_refusal}
+use Rattle.demands.specs.Words.{Consistent}
 use Rattle.demands.proofs.Long.{no_refusal}
 use Rattle.demands.specs.Demands.{SearchDemand}
 use Rattle.demands.specs.Answers.{SearchAnswers, WidestAnswers}
@@ -54,13 +52,12 @@ module _ (left right : List ℕ) (a : AcceptedText program_tick left) (b : Accep
   keep_long : bytes_for (states program_tick left) ≤ length (zeros keep_limit)
   keep_long = omega (arith, few_read left, zeros_length keep_limit)
 
-  -- a search that gives a number gives it as demand 3 says
+  -- a search that gives a number gives it as SPECIFICATION 17.3 says
   by_number : Consistent (meaning program_tick left a) → (run : List ℕ) (n : ℕ) → (searched run).answer
-      ≡ search_answer.Found n
+      ≡ Ok n
       → Demand run
-  unfolding search_refusal
   by_number c run n f = demand_3 program_tick left right a b e c (zeros keep_limit) entries entries run
-      (no_refusal (search_refusal (searched run).answer) (ap search_refusal f))
+      (no_refusal _ n f)
 
   module _ (few : states program_tick left * states program_tick right ≤ entries) where
     -- a shortest departure is no longer than there are pairs
@@ -99,7 +96,7 @@ module _ (left right : List ℕ) (a : AcceptedText program_tick left) (b : Accep
     -- YES: the table is made, and the start pair is in it
     yes_answer : Consistent (meaning program_tick left a) → AllSatisfy left right a b → Answers left right
         (widest_line (widest_outcome program_tick left right (zeros keep_limit) (zeros counted_bytes)).answer)
-    unfolding widest_line widest_refusal
+    unfolding widest_line
     yes_answer c all = go (demand_1_widest program_tick left right a b e (zeros keep_limit) (zeros counted_bytes))
       where
         go : WidestAnswers (meaning program_tick left a) (right_meaning program_tick left right b)
@@ -118,17 +115,16 @@ module _ (left right : List ℕ) (a : AcceptedText program_tick left) (b : Accep
         go (WidestAnswers.seventeen k t h o r s) = absurd (h c)
         go (WidestAnswers.written k t d n start f) =
             let y = demand_2_widest program_tick left right a b e c (zeros keep_limit) (zeros counted_bytes)
-            (no_refusal (widest_refusal (widest_outcome program_tick left right (zeros keep_limit)
-            (zeros counted_bytes)).answer)
-            (ap widest_refusal f)) in
+            (no_refusal _ _ f) in
             let is : (widest_outcome program_tick left right (zeros keep_limit) (zeros counted_bytes)).answer
-            ≡ made.Made y.count true
-            = y.answer ∙ ap (made.Made y.count) (T_true y.start (y.start_means.1 all)) in
+            ≡ Ok (record { count = y.count; start = true })
+            = y.answer ∙ ap (λ (start : Bool). Ok (record { count = y.count; start = start }))
+            (T_true y.start (y.start_means.1 all)) in
             Answers.yes a b e few c all y.count is (ap widest_line is)
 
     -- NO: the steps that are written
     no_lines : (n : ℕ) (run : List ℕ) → 0 < n → length (take n run) ≡ n
-        → search_lines left right (search_answer.Found n) run
+        → search_lines left right (Ok n) run
         ≡ departure_lines left (text_of program_tick left).channels (length (take n run)) (take n run)
     unfolding search_lines departure_lines
     no_lines n run m l =
@@ -137,7 +133,7 @@ module _ (left right : List ℕ) (a : AcceptedText program_tick left) (b : Accep
         (sym (take_all n (take n run) (omega (arith, l)))))
 
     counted_answer : Consistent (meaning program_tick left a) → (n : ℕ) → (searched (zeros entries)).answer
-        ≡ search_answer.Found n
+        ≡ Ok n
         → Answers left right (megzhoi_prints left right)
     unfolding megzhoi_prints
     counted_answer c n f =
@@ -150,15 +146,15 @@ module _ (left right : List ℕ) (a : AcceptedText program_tick left) (b : Accep
         (ap (λ o. search_lines left right o run) y.answer ∙ no_lines y.n run m y.written))
         (λ (m : y.n ≤ 0).
         let z : y.n ≡ 0 = omega arith in
-        subst (Answers left right) (sym (ap (λ o. search_lines left right o run) (y.answer ∙ ap search_answer.Found z) ∙ yes_lines run))
+        subst (Answers left right) (sym (ap (λ o. search_lines left right o run) (y.answer ∙ ap Ok z) ∙ yes_lines run))
         (yes_answer c (y.satisfied.0 z)))
         (less 0 y.n)
       where
-        yes_lines : (run : List ℕ) → search_lines left right (search_answer.Found 0) run
+        yes_lines : (run : List ℕ) → search_lines left right (Ok 0) run
             ≡ widest_line (widest_outcome program_tick left right (zeros keep_limit) (zeros counted_bytes)).answer
         yes_lines run = unfold search_lines in refl
 
-  -- the cases of demand 1, those that the program's slices leave
+  -- the cases of SPECIFICATION 17.1, those that the program's slices leave
   accepted_answer : Answers left right (megzhoi_prints left right)
   unfolding megzhoi_prints search_lines
   accepted_answer = go (demand_1_search program_tick left right a b e (zeros keep_limit) entries entries
