@@ -81,11 +81,7 @@ fn join_accepted(
         (joined_text (right_step left.now l right.now r) l r)) out.old) }
 {
     let map = pairing::pair_channels(left, l, right, r).unwrap();
-    let joining = joining_record::join_records(l, r, map);
-    if !joining.fits {
-        return Err(Refusal::LimitExceeded);
-    }
-    let t = joining.text;
+    let t = joining_record::join_records(l, r, map).ok_or(Refusal::LimitExceeded)?;
     if STATE_LIMIT < states_of(t) {
         return Err(Refusal::LimitExceeded);
     }

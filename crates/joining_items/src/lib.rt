@@ -11,13 +11,10 @@ use limits::{CLOCK_LIMIT, COMPARISON_LIMIT};
 use reader_record::{Assignment, Comparison, Constraint, Edge, Label, Sign};
 
 // The channel of a label, from 1.
-#[tactic(auto, unfolding(reader_record::specs::Record::channel))]
 pub fn channel_of(l: Label) -> usize
     ensures { result ≡ channel l }
 {
-    match l {
-        Label::Input(c) | Label::Output(c) => usize::from(c),
-    }
+    l.channel()
 }
 
 // The right's comparison on its new clock, where the left has n clocks (SPECIFICATION 18.3).

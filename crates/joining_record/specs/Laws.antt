@@ -28,9 +28,8 @@ use Rattle.joined.proofs.Formed.{invariant_at as joined_invariant, pair_lt, fits
 use Rattle.joining_items.specs.Items.{Nearly, NearEdge, Joinable}
 use Rattle.joining_items.specs.Laws.{nearly_alike, below_last}
 use Rattle.joining_edges.specs.declared.Edges.{Edges}
-use Rattle.joining_edges.specs.Edges.{by_map, edge_at, Pairable, Holds}
-use Rattle.joining_record.specs.declared.Joining.{Joining}
-use Rattle.joining_record.specs.Records.{invariant_at, JoinsRecords}
+use Rattle.joining_edges.specs.Edges.{edge_at, Pairable, Holds}
+use Rattle.joining_record.specs.Records.{invariant_at}
 
 -- one number more
 pub up_to_next : (P : ℕ → Type 0) (i : ℕ) → ((j : ℕ) → j < i → P j) → P i → (j : ℕ) → j < i + 1 → P j
@@ -162,8 +161,8 @@ true_not : {b : Bool} → b ≡ true → b ≡ false → ⊥
 true_not t f = subst T f (subst T (sym t) tt)
 
 module _ (f : ℕ → ℕ) (l r : Text) where
-  pub fits_true : CountsFit (joined_text f l r) → true ≡ counts_fit (joined_text f l r)
-  fits_true s = sym (T_true (counts_fit (joined_text f l r)) (fits_test (joined_text f l r) s))
+  pub fits_true : CountsFit (joined_text f l r) → counts_fit (joined_text f l r) ≡ true
+  fits_true s = T_true (counts_fit (joined_text f l r)) (fits_test (joined_text f l r) s)
 
   -- a limit is exceeded
   not_fits : (CountsFit (joined_text f l r) → ⊥) → counts_fit (joined_text f l r) ≡ false
@@ -295,12 +294,3 @@ module _ (f : ℕ → ℕ) (l r : Text) where
       pub built_names : (i : ℕ) → i < l.channel_count
           → (get_or channels i no_channel).name ≡ (get_or l.channels i no_channel).name
       built_names i h = unfold joined_channel in ap (λ (k : Channel). k.name) (each i h)
-
--- no record where a limit is exceeded
-pub joins_not : (l r : Text) (map : List ℕ) (j : Joining) → counts_fit (joined_text (by_map map) l r) ≡ false
-    → j.fits ≡ false → JoinsRecords l r map j
-joins_not l r map j n e = record {
-  judged = e ∙ sym n;
-  alike = λ t. absurd (true_not t e);
-  names = λ t. absurd (true_not t e);
-}

@@ -20,13 +20,6 @@ use limits::{
 };
 use reader_record::{Channel, Constraint, Direction, Location, Name, Text};
 
-// Whether the joined record is within the limits, and if so, the record; else `text` is filling.
-#[derive(Clone, Copy)]
-pub struct Joining {
-    pub fits: bool,
-    pub text: Text,
-}
-
 // A pair of locations, where the left text has n clocks (SPECIFICATION 18.3). It has no name yet.
 fn join_location(n: u8, a: Location, b: Location) -> Location
     requires { Joinable n a.invariant b.invariant }
@@ -147,37 +140,27 @@ fn has_few_guards(es: Edges) -> bool
     true
 }
 
-// No joined record; t is filling.
-fn no_joining(t: Text) -> Joining
-    ensures { result.fits ≡ false }
-{
-    Joining {
-        fits: false,
-        text: t,
-    }
-}
-
-// Joins two texts whose clocks and pairs of locations are within the limits.
-fn join_within(l: Text, r: Text, map: [usize; STEP_LIMIT]) -> Joining
+// The record of two texts joined, if it is within the limits, of texts whose clocks and pairs of locations are within the limits.
+fn join_within(l: Text, r: Text, map: [usize; STEP_LIMIT]) -> Option<Text>
     requires { Pairable l r }
     ensures { JoinsRecords l r map result }
 {
     let es = joining_edges::pair_edges(l, r, map);
     if EDGE_LIMIT < es.count {
-        return no_joining(l);
+        return None;
     }
     let locations = join_locations(l, r);
     let location_count = l.location_count * r.location_count;
     if !has_few_invariants(locations, location_count) {
-        return no_joining(l);
+        return None;
     }
     if !has_few_guards(es) {
-        return no_joining(l);
+        return None;
     }
     let channels = join_channels(l, es);
     let clocks = l.clocks;
     let edges = es.list;
-    let text = Text {
+    Some(Text {
         channels,
         channel_count: l.channel_count,
         clocks,
@@ -187,20 +170,19 @@ fn join_within(l: Text, r: Text, map: [usize; STEP_LIMIT]) -> Joining
         init: l.init * r.location_count + r.init,
         edges,
         edge_count: es.count,
-    };
-    Joining { fits: true, text }
+    })
 }
 
-// Joins two texts; `map` has the right's number of each of the left's steps.
-pub fn join_records(l: Text, r: Text, map: [usize; STEP_LIMIT]) -> Joining
+// The record of two texts joined, if it is within the limits; `map` has the right's number of each of the left's steps.
+pub fn join_records(l: Text, r: Text, map: [usize; STEP_LIMIT]) -> Option<Text>
     requires { WellFormed l × WellFormed r }
     ensures { JoinsRecords l r map result }
 {
     if CLOCK_LIMIT < l.clock_count + r.clock_count {
-        return no_joining(l);
+        return None;
     }
     if LOCATION_LIMIT < l.location_count * r.location_count {
-        return no_joining(l);
+        return None;
     }
     join_within(l, r, map)
 }

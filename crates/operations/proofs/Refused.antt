@@ -1,7 +1,6 @@
 -- The operations on one text that is refused when it is measured.
 use Rattle.std.specs.Prelude.{◌≡◌, List, ℕ, Result, Err, ⊤}
 use Rattle.std.specs.Result.{IsErrAnd}
-use Rattle.std.proofs.Common.{sym, ap, ◌∙◌}
 use Rattle.std.proofs.lemmas.Result.{err_from_is_err_and}
 use Rattle.refusals.specs.declared.Refusal.{Refusal}
 use Rattle.clocks_read.specs.declared.Reading.{Reading}

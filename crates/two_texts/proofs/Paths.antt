@@ -15,7 +15,6 @@ use Rattle.refusals.specs.declared.File.{File}
 use Rattle.refusals.specs.declared.File.TheVariants.{Left, Right}
 use Rattle.refusals.specs.Refusals.{in_file}
 use Rattle.refusals.specs.Answers.{answer_of}
-use Rattle.systems.specs.Bools.{none_some}
 use Rattle.reader_record.specs.declared.Text.{Text}
 use Rattle.reader_record.specs.Formed.{WellFormed}
 use Rattle.bitmaps.specs.Bits.{tab_from, written}

@@ -7,14 +7,13 @@ use native.Mathlib.Omega.{arith}
 use lib.Arith.{digits_lt, digits_div, digits_mod}
 use lib.ListN.{length, get_or}
 use borrow.Author.Tests.{le-leb}
-use Rattle.systems.specs.Tests.{table}
 use Rattle.systems.specs.Renumbered.{renumbered}
 use Rattle.reader_record.specs.declared.Text.{Text}
 use Rattle.reader_formed.proofs.Cases.{when_equal}
 use Rattle.bitmaps.specs.Bits.{tab_from}
 use Rattle.bitmaps.specs.BitLaws.{tab_at, length_tab, written_at, written_length}
 use Rattle.move_tables.specs.Moves.{Bounded, Encodes}
-use Rattle.clocks.specs.States.{state_count, next, input}
+use Rattle.clocks.specs.States.{state_count, input}
 use Rattle.clocks.proofs.Contract.{signature, system}
 use Rattle.clocks.specs.Encoding.{Filled}
 use Rattle.clocks.proofs.Encoded.{length_invariants, table_bounded, table_encoded, bits_bitmap, bits_start}

@@ -1,10 +1,8 @@
 -- Two texts that are parsed and measured, and slices with room for both.
-use Rattle.std.specs.Prelude.{◌≡◌, Bool, true, false, List, ℕ, ◌≤◌, leb, Result, Ok, Err}
+use Rattle.std.specs.Prelude.{◌≡◌, Bool, true, false, List, ℕ, ◌≤◌, leb}
 use Rattle.std.proofs.Common.{arith, leb-true}
 use Rattle.clocks_table.specs.Judge.{room_within, room_always}
 use Rattle.clocks_table.specs.Room.{Room}
-use Rattle.refusals.specs.declared.Refusal.{Refusal}
-use Rattle.clocks_read.specs.declared.Measured.{Measured}
 use Rattle.clocks_read.specs.Measured.{Measures, states_of}
 use Rattle.two_texts.specs.declared.MeasuredTexts.{MeasuredTexts}
 use Rattle.limits.specs.Limits.{move_limit, keep_limit, few_states, few_moves, few_bytes}

@@ -1,17 +1,18 @@
 -- join_within: each limit that is exceeded refutes `counts_fit`; with none exceeded the record says the same.
 use mathlib.Core.Path.{sym, ◌∙◌}
 use Rattle.joined.specs.Joined.{joined_edges}
+use Rattle.joining_record.specs.Records.{JoinsRecords}
 use Rattle.joining_edges.specs.Edges.{by_map}
-use Rattle.joining_record.specs.Laws.{over_edges, over_invariants, over_guards, start_small, built_fits, built_alike, built_names, joins_not, fits_true}
+use Rattle.joining_record.specs.Laws.{over_edges, over_invariants, over_guards, start_small, built_fits, built_alike, built_names, fits_true}
 use native.Mathlib.Omega.{arith}
 use Rattle.joining_record.proofs.join_within.Goals as goal
 
 pub returns-then-es-gt-EDGE_LIMIT : goal.returns-then-es-gt-EDGE_LIMIT
+unfolding JoinsRecords
 returns-then-es-gt-EDGE_LIMIT c =
     let pair-edges = c.pair_edges-es in
     let a = c.args in
-    joins_not a.l a.r a.map _ (over_edges (by_map a.map) a.l a.r
-    (pair-edges.ensures.over c.if-es-gt-EDGE_LIMIT.true)) c.no_joining.ensures
+    over_edges (by_map a.map) a.l a.r (pair-edges.ensures.over c.if-es-gt-EDGE_LIMIT.true)
 
 pub overflow_mul-location_count : goal.overflow_mul-location_count
 overflow_mul-location_count c =
@@ -22,6 +23,7 @@ has_few_invariants-requires c =
     c.requires.locations
 
 pub returns-then-not-has_few_invariants : goal.returns-then-not-has_few_invariants
+unfolding JoinsRecords
 returns-then-not-has_few_invariants c =
     let has-few-invariants = c.has_few_invariants in
     let join-locations = c.join_locations-locations in
@@ -29,10 +31,9 @@ returns-then-not-has_few_invariants c =
     let pair-edges = c.pair_edges-es in
     let a = c.args in
     let holds = pair-edges.ensures.within if1.false in
-    joins_not a.l a.r a.map _ (over_invariants (by_map a.map) a.l a.r join-locations.result
+    over_invariants (by_map a.map) a.l a.r join-locations.result
     join-locations.ensures pair-edges.result holds
-    (sym has-few-invariants.ensures ∙ c.if-not-has_few_invariants.true))
-    c.no_joining-then-not-has_few_invariants.ensures
+    (sym has-few-invariants.ensures ∙ c.if-not-has_few_invariants.true)
 
 pub has_few_guards-requires : goal.has_few_guards-requires
 has_few_guards-requires c =
@@ -40,6 +41,7 @@ has_few_guards-requires c =
     if1.false
 
 pub returns-then-not-has_few_guards : goal.returns-then-not-has_few_guards
+unfolding JoinsRecords
 returns-then-not-has_few_guards c =
     let has-few-guards = c.has_few_guards in
     let join-locations = c.join_locations-locations in
@@ -47,29 +49,29 @@ returns-then-not-has_few_guards c =
     let pair-edges = c.pair_edges-es in
     let a = c.args in
     let holds = pair-edges.ensures.within if1.false in
-    joins_not a.l a.r a.map _ (over_guards (by_map a.map) a.l a.r join-locations.result
+    over_guards (by_map a.map) a.l a.r join-locations.result
     join-locations.ensures pair-edges.result holds
-    (sym has-few-guards.ensures ∙ c.if-not-has_few_guards.true))
-    c.no_joining-then-not-has_few_guards.ensures
+    (sym has-few-guards.ensures ∙ c.if-not-has_few_guards.true)
 
 pub join_channels-channels-requires : goal.join_channels-channels-requires
 join_channels-channels-requires c =
     let if1 = c.if-es-gt-EDGE_LIMIT in
     (c.requires.left.channels, if1.false)
 
-pub overflow_add-text : goal.overflow_add-text
-overflow_add-text c =
+pub overflow_add-result : goal.overflow_add-result
+overflow_add-result c =
     omega (arith, c.requires.clocks)
 
-pub overflow_mul-text : goal.overflow_mul-text
-overflow_mul-text c =
+pub overflow_mul-result : goal.overflow_mul-result
+overflow_mul-result c =
     omega (arith, start_small _ _ c.requires)
 
-pub overflow_add-text-2 : goal.overflow_add-text-2
-overflow_add-text-2 c =
+pub overflow_add-result-2 : goal.overflow_add-result-2
+overflow_add-result-2 c =
     omega (arith, start_small _ _ c.requires)
 
 pub returns : goal.returns
+unfolding JoinsRecords
 returns c =
     let join-channels = c.join_channels-channels in
     let if3 = c.if-not-has_few_guards in
@@ -88,9 +90,9 @@ returns c =
     (sym has-few-guards.ensures ∙ if3.false) in
     let each = join-channels.ensures (joined_edges f a.l a.r) holds in
     record {
-      judged = fits_true f a.l a.r s;
-      alike = λ t. built_alike f a.l a.r join-locations.result near pair-edges.result holds s
+      fits = fits_true f a.l a.r s;
+      alike = built_alike f a.l a.r join-locations.result near pair-edges.result holds s
           join-channels.result each a.l.clocks;
-      names = λ t. built_names f a.l a.r join-locations.result near pair-edges.result holds s
+      names = built_names f a.l a.r join-locations.result near pair-edges.result holds s
           join-channels.result each a.l.clocks;
     }

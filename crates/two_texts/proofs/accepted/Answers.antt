@@ -1,5 +1,4 @@
 -- The sizes and the inputs are those that the callees promise.
-use borrow.Author.Rules.{rules}
 use Rattle.clocks_states.specs.Laws.{inputs_done}
 use Rattle.two_texts.proofs.Paths.{numbers_done}
 use Rattle.two_texts.proofs.accepted.Goals as goal
