@@ -1,23 +1,24 @@
 -- Slices of the sizes that `Sizes` defines are long enough (SPECIFICATION 12.8, 15.3): for accepted texts, sized by the
 -- numbers of states that reading returns, no call returns 13, 14, 15 or 21.
-use Rattle.std.specs.Prelude.{◌≡◌, true, List, ℕ, ◌*◌, ◌≤◌, ◌<◌}
-use Rattle.std.proofs.Math.Path.{sym}
+use Rattle.std.specs.Prelude.{◌≡◌, true, List, ℕ, ◌*◌, ◌≤◌, ◌<◌, Result, Ok, Err}
+use Rattle.std.proofs.Math.Path.{refl, sym}
 use Rattle.std.proofs.Math.Option.{none}
 use native.Mathlib.Omega.{arith}
 use Rattle.std.proofs.Common.{le-leb, ne_eqb}
 use Rattle.std.proofs.Math.ListN.{length}
 use Rattle.limits.specs.Limits.{state_limit}
 use Rattle.refusals.specs.declared.Refusal.{Refusal}
-use Rattle.refusals.specs.Refusals.{keep_too_short, table_too_short, queue_too_short, run_too_short}
-use Rattle.refusals.specs.declared.Verdict.TheVariants as verdict
+use Rattle.refusals.specs.declared.Refusal.TheVariants.{KeepTooShort, TableTooShort, QueueTooShort, RunTooShort}
+use Rattle.refusals.specs.Answers.{answer_of}
 use Rattle.systems.specs.Renumbered.{renumbered}
 use Rattle.bitmaps.specs.Packed.{bytes_for}
 use Rattle.clocks.specs.States.{state_count}
 use Rattle.clocks.proofs.Judgement.{judgement_few}
 use Rattle.clocks.proofs.Contract.{system}
-use Rattle.clocks_read.specs.Reading.{read_outcome}
+use Rattle.clocks_read.specs.declared.Reading.{Reading}
+use Rattle.clocks_read.specs.Reading.{read_outcome, text_in, states_in}
 use Rattle.clocks_read.specs.Laws.{read_accepted}
-use Rattle.safe_states.specs.Outcome.{safe_outcome, answered}
+use Rattle.safe_states.specs.Outcome.{safe_outcome, answered, kept_outcome}
 use Rattle.two_texts.specs.Two.{two_judged, left_system, right_system}
 use Rattle.two_texts.proofs.Laws.{compared, judged_none, judged_by_none}
 use Rattle.tables_header.specs.Header.{table_bytes}
@@ -46,36 +47,43 @@ queue_is : (n w : ℕ) → possible n ≡ true → possible w ≡ true → queue
 unfolding queue_needed
 queue_is n w p q = rw (p, q)
 
+-- an accepted text's safe states go by its record
+answered_accepted : (r : Result Reading Refusal) (keep : List ℕ) → answer_of r ≡ Ok tt
+    → answered r keep ≡ kept_outcome (text_in r) keep
+unfolding answered
+answered_accepted (Ok r) keep e = refl
+answered_accepted (Err f) keep e = let z : ◌≡◌ {A = ℕ} 0 1 = cc in absurd (omega arith)
+
 module _ (period : ℕ) where
   -- an accepted text
-  module _ (s : List ℕ) (a : (read_outcome period s).answer ≡ verdict.Accepted) where
+  module _ (s : List ℕ) (a : answer_of (read_outcome period s) ≡ Ok tt) where
     -- the number of its states is possible: its start is a state, and 9 does not apply
-    pub accepted_possible : possible (read_outcome period s).states ≡ true
+    pub accepted_possible : possible (states_in (read_outcome period s)) ≡ true
     unfolding system
     accepted_possible =
         let r = read_accepted period s a in
-        let t = (read_outcome period s).text in
+        let t = text_in (read_outcome period s) in
         let start = (system t r.accepted).start_state.0 in
         rw r.states (within (state_count t) (omega (arith, start)) (judgement_few t r.accepted.clean))
 
     -- safe states: not 13
-    pub safe_enough : (keep : List ℕ) → keep_needed (read_outcome period s).states ≤ length keep
-        → ReturnsNo keep_too_short (of_safe (safe_outcome period s keep).answer)
-    unfolding safe_outcome answered
+    pub safe_enough : (keep : List ℕ) → keep_needed (states_in (read_outcome period s)) ≤ length keep
+        → ReturnsNo KeepTooShort (of_safe (safe_outcome period s keep).answer)
+    unfolding safe_outcome
     safe_enough keep k =
         let r = read_accepted period s a in
-        let t = (read_outcome period s).text in
+        let t = text_in (read_outcome period s) in
         let long : bytes_for (state_count t) ≤ length keep = rw
         (sym r.states, sym (keep_is _ accepted_possible)) k in
-        rw a (kept t keep long)
+        rw (answered_accepted (read_outcome period s) keep a) (kept t keep long)
 
   -- two texts of which codes 24 and 1 to 12 find nothing
   module _ (left right : List ℕ) (e : none ≡ two_judged period left right) where
     abbrev left_states : ℕ
-    left_states = (read_outcome period left).states
+    left_states = states_in (read_outcome period left)
 
     abbrev right_states : ℕ
-    right_states = (read_outcome period right).states
+    right_states = states_in (read_outcome period right)
 
     left_size : (left_system period (compared period left right e)).size ≡ left_states
     unfolding system
@@ -129,30 +137,30 @@ module _ (period : ℕ) where
           (right_system period (compared period left right e)) keep (keep_long keep k) back line run (queue_long back b)
           (queue_long line l) kind short)
 
-      pub search_enough : ReturnsNo keep_too_short
+      pub search_enough : ReturnsNo KeepTooShort
           (of_search (search_outcome period left right keep back line run).answer)
-          × ReturnsNo queue_too_short (of_search (search_outcome period left right keep back line run).answer)
+          × ReturnsNo QueueTooShort (of_search (search_outcome period left right keep back line run).answer)
       search_enough = (
-        search_without keep_too_short (λ i. (omega arith, omega arith)),
-        search_without queue_too_short (λ i. (omega arith, omega arith)),
+        search_without KeepTooShort (λ i. (omega arith, omega arith)),
+        search_without QueueTooShort (λ i. (omega arith, omega arith)),
       )
 
       pub run_enough : queue_needed left_states right_states ≤ length run
-          → ReturnsNo run_too_short (of_search (search_outcome period left right keep back line run).answer)
+          → ReturnsNo RunTooShort (of_search (search_outcome period left right keep back line run).answer)
       run_enough r = rw search_is (searched_run (left_system period (compared period left right e))
           (right_system period (compared period left right e)) keep (keep_long keep k) back line run (queue_long back b)
           (queue_long line l) (queue_long (length run) r))
 
     -- the check: not 13
     pub check_enough : (keep table : List ℕ) → keep_needed left_states ≤ length keep
-        → ReturnsNo keep_too_short (of_check (check_outcome period left right keep table).answer)
+        → ReturnsNo KeepTooShort (of_check (check_outcome period left right keep table).answer)
     unfolding check_outcome
     check_enough keep table k =
         rw (judged_by_none (two_judged period left right) (λ (r : Refusal). check_refused r keep)
         (λ (f : none ≡ two_judged period left right). check_systems (left_system period (compared period left right f))
         (right_system period (compared period left right f)) keep table) e)
         (checked (left_system period (compared period left right e))
-        (right_system period (compared period left right e)) keep table keep_too_short
+        (right_system period (compared period left right e)) keep table KeepTooShort
         (λ i. (omega arith, omega arith)) (keep_long keep k))
 
     -- the widest table: not 13 or 14
@@ -171,9 +179,9 @@ module _ (period : ℕ) where
           (right_system period (compared period left right e)) keep table kind short
           (keep_long keep k) (table_long table t))
 
-      pub widest_enough : ReturnsNo keep_too_short (of_widest (widest_outcome period left right keep table).answer)
-          × ReturnsNo table_too_short (of_widest (widest_outcome period left right keep table).answer)
+      pub widest_enough : ReturnsNo KeepTooShort (of_widest (widest_outcome period left right keep table).answer)
+          × ReturnsNo TableTooShort (of_widest (widest_outcome period left right keep table).answer)
       widest_enough = (
-        widest_without keep_too_short (λ i. (omega arith, omega arith)),
-        widest_without table_too_short (λ i. (omega arith, omega arith)),
+        widest_without KeepTooShort (λ i. (omega arith, omega arith)),
+        widest_without TableTooShort (λ i. (omega arith, omega arith)),
       )

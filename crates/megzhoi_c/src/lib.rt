@@ -5,33 +5,20 @@
 #![tactic(auto)]
 
 ghost use Rattle.std.specs.Prelude.{◌≡◌, length, ◌&&◌};
-ghost use Rattle.clocks_read.specs.Reading.{read_outcome};
+ghost use Rattle.clocks_read.specs.Reading.{read_outcome, text_in, states_in};
+ghost use Rattle.refusals.specs.Answers.{answer_of};
 ghost use Rattle.safe_states.specs.Outcome.{safe_outcome};
 ghost use Rattle.implementation_check.specs.Outcome.{implementation_outcome};
 ghost use Rattle.joining.specs.Outcome.{join_outcome};
 ghost use Rattle.search.specs.Outcome.{Scratch};
 ghost use Rattle.two_operations.specs.Outcome.{search_outcome, check_outcome, widest_outcome};
-ghost use Rattle.megzhoi_c.specs.Returned.{four, success, refused, as_number, recorded};
+ghost use Rattle.megzhoi_c.specs.Returned.{four, success, refused, of_numbers, recorded};
 ghost use Rattle.megzhoi_c.specs.Returned.{of_verdict, of_safe, of_search, of_check, of_widest, of_join};
 ghost use Rattle.megzhoi_c.specs.Sizes.{possible, keep_needed, table_needed, queue_needed};
 
-use joining::JoinAnswer;
+use clocks_read::Reading;
 use limits::STATE_LIMIT;
-use reader_record::Text;
-use refusals::{NO_FILE, Refusal, Verdict};
-use safe_states::SafeAnswer;
-use search::SearchAnswer;
-use tables::{CheckAnswer, WidestAnswer};
-
-// 1 for true and 0 for false.
-fn number_of_bool(b: bool) -> usize
-    ensures { result ≡ as_number b }
-{
-    if b {
-        return 1;
-    }
-    0
-}
+use refusals::{File, Refusal};
 
 // What a call returns: a refusal's code, file mark, p and q, or success, which is no refusal.
 #[derive(Clone, Copy)]
@@ -51,7 +38,7 @@ fn succeeded(p: usize, q: usize) -> Returned
 {
     Returned {
         code: SUCCESS,
-        file: NO_FILE,
+        file: File::None.mark(),
         p,
         q,
     }
@@ -62,70 +49,21 @@ fn refused(f: Refusal) -> Returned
     ensures { result ≡ refused f }
 {
     Returned {
-        code: f.code,
-        file: f.file,
-        p: f.p,
-        q: f.q,
+        code: f.code(),
+        file: f.file().mark(),
+        p: f.p(),
+        q: f.q(),
     }
 }
 
-fn verdict_returned(a: Verdict, p: usize) -> Returned
-    ensures { result ≡ of_verdict a p }
+// What a call returns that gives two numbers, or a refusal.
+#[tactic(auto, unfolding(crate::specs::Returned::of_numbers))]
+fn numbers_of(a: Result<(usize, usize), Refusal>) -> Returned
+    ensures { result ≡ of_numbers a }
 {
     match a {
-        Verdict::Accepted => succeeded(p, 0),
-        Verdict::Refused(f) => refused(f),
-    }
-}
-
-fn safe_returned(a: SafeAnswer) -> Returned
-    ensures { result ≡ of_safe a }
-{
-    match a {
-        SafeAnswer::Found(count, start) => {
-            let q = number_of_bool(start);
-            succeeded(count, q)
-        }
-        SafeAnswer::Refused(f) => refused(f),
-    }
-}
-
-fn search_returned(a: SearchAnswer) -> Returned
-    ensures { result ≡ of_search a }
-{
-    match a {
-        SearchAnswer::Found(n) => succeeded(n, 0),
-        SearchAnswer::Refused(f) => refused(f),
-    }
-}
-
-fn check_returned(a: CheckAnswer) -> Returned
-    ensures { result ≡ of_check a }
-{
-    match a {
-        CheckAnswer::Accepted(count) => succeeded(count, 0),
-        CheckAnswer::Refused(f) => refused(f),
-    }
-}
-
-fn widest_returned(a: WidestAnswer) -> Returned
-    ensures { result ≡ of_widest a }
-{
-    match a {
-        WidestAnswer::Made(count, start) => {
-            let q = number_of_bool(start);
-            succeeded(count, q)
-        }
-        WidestAnswer::Refused(f) => refused(f),
-    }
-}
-
-fn join_returned(a: JoinAnswer) -> Returned
-    ensures { result ≡ of_join a }
-{
-    match a {
-        JoinAnswer::Written(n) => succeeded(n, 0),
-        JoinAnswer::Refused(f) => refused(f),
+        Ok((p, q)) => succeeded(p, q),
+        Err(f) => refused(f),
     }
 }
 
@@ -140,12 +78,12 @@ fn hand_out(f: Returned, file: &mut usize, p: &mut usize, q: &mut usize) -> usiz
 }
 
 // Writes the record of a text that was read.
-fn write_record(a: Verdict, t: Text, states: usize, out: &mut [usize])
-    ensures { out.new ≡ recorded a t states out.old }
+#[tactic(auto, unfolding(crate::specs::Returned::recorded))]
+fn write_record(a: Result<Reading, Refusal>, out: &mut [usize])
+    ensures { out.new ≡ recorded (answer_of a) (text_in a) (states_in a) out.old }
 {
-    match a {
-        Verdict::Accepted => reader_numbers::write(out, t, states),
-        Verdict::Refused(_) => (),
+    if let Ok(reading) = a {
+        reader_numbers::write(out, reading.text, reading.states);
     }
 }
 
@@ -160,17 +98,15 @@ pub extern "C" fn megzhoi_read(
     q: &mut usize,
 ) -> usize
     ensures four_numbers { four result file.new p.new q.new ≡
-        of_verdict (read_outcome period text.now).answer
-        (read_outcome period text.now).states }
-    ensures out_after { out.new ≡ recorded (read_outcome period text.now).answer
-        (read_outcome period text.now).text (read_outcome period text.now).states
+        of_verdict (answer_of (read_outcome period text.now))
+        (states_in (read_outcome period text.now)) }
+    ensures out_after { out.new ≡ recorded (answer_of (read_outcome period text.now))
+        (text_in (read_outcome period text.now)) (states_in (read_outcome period text.now))
         out.old }
 {
-    let reading = operations::read(period, text);
-    let answer = reading.answer;
-    let t = reading.text;
-    write_record(answer, t, reading.states, out);
-    let f = verdict_returned(answer, reading.states);
+    let answer = operations::read(period, text);
+    write_record(answer, out);
+    let f = numbers_of(answer.map(|reading| (reading.states, 0)));
     hand_out(f, file, p, q)
 }
 
@@ -189,7 +125,7 @@ pub extern "C" fn megzhoi_safe_states(
     ensures keep_after { keep.new ≡ (safe_outcome period text.now keep.old).keep }
 {
     let answer = operations::safe_states(period, text, keep);
-    let f = safe_returned(answer);
+    let f = numbers_of(answer.map(|found| (found.count, found.start as usize)));
     hand_out(f, file, p, q)
 }
 
@@ -206,7 +142,7 @@ pub extern "C" fn megzhoi_implementation(
         of_verdict (implementation_outcome period text.now) 0 }
 {
     let answer = operations::implementation(period, text);
-    let f = verdict_returned(answer, 0);
+    let f = numbers_of(answer.map(|()| (0, 0)));
     hand_out(f, file, p, q)
 }
 
@@ -237,7 +173,7 @@ pub extern "C" fn megzhoi_search(
         back.old back.new line.old line.new }
 {
     let answer = operations::search(period, left, right, keep, back, line, run);
-    let f = search_returned(answer);
+    let f = numbers_of(answer.map(|n| (n, 0)));
     hand_out(f, file, p, q)
 }
 
@@ -259,7 +195,7 @@ pub extern "C" fn megzhoi_check(
         (check_outcome period left.now right.now keep.old table.now).keep }
 {
     let answer = operations::check(period, left, right, keep, table);
-    let f = check_returned(answer);
+    let f = numbers_of(answer.map(|count| (count, 0)));
     hand_out(f, file, p, q)
 }
 
@@ -285,7 +221,7 @@ pub extern "C" fn megzhoi_widest(
         table.old).table }
 {
     let answer = operations::widest(period, left, right, keep, table);
-    let f = widest_returned(answer);
+    let f = numbers_of(answer.map(|made| (made.count, made.start as usize)));
     hand_out(f, file, p, q)
 }
 
@@ -306,7 +242,7 @@ pub extern "C" fn megzhoi_join(
         (join_outcome period left.now right.now out.old).out }
 {
     let answer = operations::join(period, left, right, out);
-    let f = join_returned(answer);
+    let f = numbers_of(answer.map(|length| (length, 0)));
     hand_out(f, file, p, q)
 }
 

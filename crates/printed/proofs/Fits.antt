@@ -1,5 +1,6 @@
 -- What program megzhoi prints of a departure has room: the run has no more steps than entries were lent, each of its steps
 -- is a step of the left, and a name of an accepted text is no longer than allowed.
+use Rattle.std.specs.Prelude.{Result, Ok, Err}
 use mathlib.Core.Path.{◌≡◌, refl, sym, ap, ◌∙◌}
 use mathlib.Core.Logic.{⊎_elim}
 use mathlib.Core.Bool.{Bool, true, false, cond, not, ◌||◌}
@@ -13,7 +14,8 @@ use lib.Seq.{take_at}
 use borrow.Author.Tests.{ltb-false, ne_eqb}
 use Rattle.limits.specs.Limits.{largest_name, keep_limit}
 use Rattle.refusals.specs.declared.Refusal.{Refusal}
-use Rattle.refusals.specs.Refusals.{keep_too_short, queue_too_short, start_not_safe, run_too_short}
+use Rattle.refusals.specs.declared.Refusal.TheVariants.{KeepTooShort, QueueTooShort, StartNotSafe, RunTooShort}
+use Rattle.refusals.specs.Answers.{answer_of}
 use Rattle.systems.specs.Definitions.{Signature, tick}
 use Rattle.systems.specs.Finite.{FiniteSystem, safe, safe_states, pruned, search_run}
 use Rattle.systems.proofs.Departure.{run, run_first, pruned_elim}
@@ -23,14 +25,11 @@ use Rattle.reader_record.specs.declared.Direction.{Direction}
 use Rattle.reader_record.specs.declared.Direction.TheVariants as direction
 use Rattle.reader_record.specs.declared.Channel.{Channel}
 use Rattle.reader_record.specs.Record.{no_channel}
-use Rattle.refusals.specs.declared.Verdict.TheVariants.{Accepted}
 use Rattle.clocks.proofs.Contract.{signature}
 use Rattle.clocks_read.specs.Reading.{read_outcome}
 use Rattle.two_texts.specs.Two.{text_of, two_judged, left_system, right_system}
 use Rattle.two_texts.proofs.Laws.{judged_none, compared, named, judged_by_none, judged_by_some}
 use Rattle.byte_slices.specs.Decimal.{ascii}
-use Rattle.search.specs.declared.SearchAnswer.{SearchAnswer}
-use Rattle.search.specs.declared.SearchAnswer.TheVariants as answer
 use Rattle.search.specs.Outcome as search
 use Rattle.search.specs.Outcome.{Outcome, search_systems}
 use Rattle.two_operations.specs.Outcome.{search_outcome}
@@ -61,7 +60,7 @@ module _ {A : Signature} (L R : FiniteSystem A) where
 -- the outcome of the search: a refusal, or steps within m that fit the run
 pub data Told (m : ℕ) (before : List ℕ) : Outcome → Type 0 where
   refused : {r : Refusal} {k after : List ℕ} → Told m before (record {
-    answer = answer.Refused r;
+    answer = Err r;
     keep = k;
     run =
         after;
@@ -78,10 +77,10 @@ systems_told {A} L R keep back line before =
   where
     go : (a b c : Bool) → safe L L.start ≡ c → (d : Bool) → ltb (length before) (length (search_run L R)) ≡ d
         → Told A.channels before
-        (cond a (search.refused (keep_too_short (bytes_for L.size)) keep before)
-        (cond b (search.refused (queue_too_short (L.size * R.size)) keep before)
-        (cond (not c) (search.refused (start_not_safe L.start) (packed L.size (safe_states L) keep) before)
-        (cond d (search.refused (run_too_short (length (search_run L R))) (packed L.size (safe_states L) keep)
+        (cond a (search.refused (KeepTooShort (bytes_for L.size)) keep before)
+        (cond b (search.refused (QueueTooShort (L.size * R.size)) keep before)
+        (cond (not c) (search.refused (StartNotSafe L.start) (packed L.size (safe_states L) keep) before)
+        (cond d (search.refused (RunTooShort (length (search_run L R))) (packed L.size (safe_states L) keep)
         before)
         (search.found (search_run L R) (packed L.size (safe_states L) keep) before)))))
     go true b c e d f = refused
@@ -141,8 +140,8 @@ module _ (left right keep : List ℕ) (back line : ℕ) (before : List ℕ) wher
   outcome_systems e = judged_by_none (two_judged program_tick left right) _ _ e
 
   told_fits :
-      {o : Outcome} {n : ℕ} → (read_outcome program_tick left).answer ≡ Accepted
-      → Told (text_of program_tick left).channel_count before o → o.answer ≡ answer.Found n
+      {o : Outcome} {n : ℕ} → answer_of (read_outcome program_tick left) ≡ Ok tt
+      → Told (text_of program_tick left).channel_count before o → o.answer ≡ Ok n
       → length (step_lines left (text_of program_tick left).channels (take n o.run)) ≤ length before * step_bytes
   told_fits a refused e = let z : ◌≡◌ {A = ℕ} 0 1 = cc in absurd (omega arith)
   told_fits {n = n} a (found steps l few) e =
@@ -163,7 +162,7 @@ module _ (left right keep : List ℕ) (back line : ℕ) (before : List ℕ) wher
       (right_system program_tick (compared program_tick left right e)) keep back line before)
 
   pub departure_fits :
-      {n : ℕ} → outcome.answer ≡ answer.Found n
+      {n : ℕ} → outcome.answer ≡ Ok n
       → length (step_lines left (text_of program_tick left).channels (take n outcome.run)) ≤ length before
       * step_bytes
   departure_fits {n} f = go (two_judged program_tick left right) refl
@@ -172,17 +171,17 @@ module _ (left right keep : List ℕ) (back line : ℕ) (before : List ℕ) wher
           → length (step_lines left (text_of program_tick left).channels (take n outcome.run)) ≤ length before
           * step_bytes
       go (some r) e =
-          let q : answer.Refused r ≡ answer.Found n = sym (ap (λ (o : Outcome). o.answer) (outcome_refused r (sym
+          let q : ◌≡◌ {A = Result ℕ Refusal} (Err r) (Ok n) = sym (ap (λ (o : Outcome). o.answer) (outcome_refused r (sym
           e))) ∙ f in
           let z : ◌≡◌ {A = ℕ} 0 1 = cc in absurd (omega arith)
       go nothing e = told_fits (judged_none program_tick left right e).left_read (outcome_told e) f
 
 -- the lines of a departure have room
 pub departure_short :
-    {a : SearchAnswer} {k r keep before : List ℕ} {back queue n : ℕ} (left right : List ℕ)
+    {a : Result ℕ Refusal} {k r keep before : List ℕ} {back queue n : ℕ} (left right : List ℕ)
     → ◌≡◌ {A = Outcome} (record { answer = a; keep = k; run = r })
     (search_outcome program_tick left right keep back queue before)
-    → keep ≡ zeros keep_limit → back ≡ entries → queue ≡ entries → before ≡ zeros entries → a ≡ answer.Found n
+    → keep ≡ zeros keep_limit → back ≡ entries → queue ≡ entries → before ≡ zeros entries → a ≡ Ok n
     → length (line (ascii "NO") (n ∷ [])) ≤ line_limit
     → length (departure_lines left (text_of program_tick left).channels n r) ≤ megzhoi_limit
 unfolding departure_lines

@@ -1,5 +1,6 @@
 -- The widest table in a lent slice: what is printed does not depend on what the slice held, and the file at its front
 -- is what is printed.
+use Rattle.std.specs.Prelude.{Result, Ok, Err}
 use mathlib.Core.Path.{◌≡◌, refl, sym, ap}
 use mathlib.Core.Bool.{Bool, true, false, cond, not}
 use mathlib.Core.Option.{Option, none, some}
@@ -7,26 +8,25 @@ use mathlib.Core.List.{List, ◌++◌}
 use Prim.Native.Nat.{ℕ, ◌≤◌}
 use native.Mathlib.Omega.{arith}
 use lib.Dec.{ltb}
-use lib.ListN.{length, take, drop, length-replicate}
-use lib.Seq.{take_all, take_at}
+use lib.ListN.{length, drop, length-replicate}
+use lib.Seq.{take_at}
 use borrow.Author.Tests.{ltb-false}
 use Rattle.limits.specs.Limits.{keep_limit}
 use Rattle.refusals.specs.declared.Refusal.{Refusal}
-use Rattle.refusals.specs.Refusals.{keep_too_short, table_too_short, start_not_safe}
+use Rattle.refusals.specs.declared.Refusal.TheVariants.{KeepTooShort, TableTooShort, StartNotSafe}
 use Rattle.systems.specs.Definitions.{Signature}
 use Rattle.systems.specs.Tests.{ones}
 use Rattle.systems.specs.Finite.{FiniteSystem, safe, safe_states, widest, cell}
 use Rattle.systems.specs.Renumbered.{renumbered}
 use Rattle.bitmaps.specs.Packed.{bytes_for, packed}
 use Rattle.clocks.proofs.Contract.{system}
-use Rattle.clocks_read.specs.Reading.{read_outcome}
+use Rattle.clocks_read.specs.Reading.{read_outcome, states_in}
 use Rattle.clocks_read.specs.Laws.{read_accepted}
 use Rattle.two_texts.specs.Two.{two_judged, left_system, right_system}
 use Rattle.two_texts.proofs.Laws.{judged_none, compared, judged_by_none, judged_by_some}
 use Rattle.tables_header.specs.Header.{table_bytes}
 use Rattle.tables_whole.specs.TableFile.{table_file}
-use Rattle.tables.specs.declared.WidestAnswer.{WidestAnswer}
-use Rattle.tables.specs.declared.WidestAnswer.TheVariants as answer
+use Rattle.tables_widest.specs.declared.WidestTable.{WidestTable}
 use Rattle.tables.specs.Outcome.{Widened, widest_refused, widest_systems}
 use Rattle.two_operations.specs.Outcome.{widest_outcome}
 use Rattle.demands.proofs.Files.{file_length}
@@ -39,9 +39,9 @@ use Rattle.printed.specs.Prints.{program_tick, zeros, table_printed, widest_prin
 -- bytes in front of what each held
 pub data Alike (t u : List ℕ) (bytes : ℕ) : Widened → Widened → Type 0 where
   refused : {r : Refusal} {k j : List ℕ} → Alike t u bytes (widest_refused r k t) (widest_refused r j u)
-  made : {count : ℕ} {start : Bool} {k j : List ℕ} (file : List ℕ) → length file ≡ bytes → bytes ≤ length t
-      → Alike t u bytes (record { answer = answer.Made count start; keep = k; table = file ++ drop bytes t })
-      (record { answer = answer.Made count start; keep = j; table = file ++ drop bytes u })
+  made : {table : WidestTable} {k j : List ℕ} (file : List ℕ) → length file ≡ bytes → bytes ≤ length t
+      → Alike t u bytes (record { answer = Ok table; keep = k; table = file ++ drop bytes t })
+      (record { answer = Ok table; keep = j; table = file ++ drop bytes u })
 
 systems_alike : {A : Signature} (L R : FiniteSystem A) (keep t u : List ℕ) → length u ≡ length t
     → Alike t u (table_bytes R.size L.size) (widest_systems L R keep t) (widest_systems L R keep u)
@@ -54,11 +54,11 @@ systems_alike L R keep t u e =
 
     judged : Bool → Bool → Bool → List ℕ → Widened
     judged a b c x =
-        cond a (widest_refused (keep_too_short (bytes_for L.size)) keep x)
-        (cond b (widest_refused (table_too_short size) keep x)
-        (cond c (widest_refused (start_not_safe L.start) (packed L.size (safe_states L) keep) x)
+        cond a (widest_refused (KeepTooShort (bytes_for L.size)) keep x)
+        (cond b (widest_refused (TableTooShort size) keep x)
+        (cond c (widest_refused (StartNotSafe L.start) (packed L.size (safe_states L) keep) x)
         (record {
-          answer = answer.Made (ones (widest L R)) (cell L R (widest L R) L.start R.start);
+          answer = Ok (record { count = ones (widest L R); start = cell L R (widest L R) L.start R.start });
           keep = packed L.size (safe_states L) keep;
           table = table_file L.size R.size (widest L R) ++ drop size x;
         })))
@@ -72,7 +72,7 @@ systems_alike L R keep t u e =
 
 module _ (left right : List ℕ) where
   abbrev file_bytes : ℕ
-  file_bytes = table_bytes (read_outcome program_tick right).states (read_outcome program_tick left).states
+  file_bytes = table_bytes (states_in (read_outcome program_tick right)) (states_in (read_outcome program_tick left))
 
   outcome_refused : (keep t : List ℕ) (r : Refusal) → two_judged program_tick left right ≡ some r
       → widest_outcome program_tick left right keep t ≡ widest_refused r keep t
@@ -114,8 +114,8 @@ module _ (left right : List ℕ) where
           (right_system program_tick (compared program_tick left right e)) keep t u l)
 
 alike_made :
-    {t u : List ℕ} {bytes count : ℕ} {start : Bool} {a b : Widened} → Alike t u bytes a b
-    → a.answer ≡ answer.Made count start
+    {t u : List ℕ} {bytes : ℕ} {table : WidestTable} {a b : Widened} → Alike t u bytes a b
+    → a.answer ≡ Ok table
     → ◌≡◌ {A = Laid} (record { slice = a.table; count = bytes }) (laid t (table_printed bytes b.answer b.table))
 unfolding table_printed
 alike_made refused e = let z : ◌≡◌ {A = ℕ} 0 1 = cc in absurd (omega arith)
@@ -123,14 +123,14 @@ alike_made {t} {u} {bytes} (made file l m) e = front_laid t u file bytes l m
 
 -- and has room in the slice
 alike_fits :
-    {t u : List ℕ} {bytes count : ℕ} {start : Bool} {a b : Widened} → Alike t u bytes a b
-    → a.answer ≡ answer.Made count start → length (table_printed bytes b.answer b.table) ≤ length t
+    {t u : List ℕ} {bytes : ℕ} {table : WidestTable} {a b : Widened} → Alike t u bytes a b
+    → a.answer ≡ Ok table → length (table_printed bytes b.answer b.table) ≤ length t
 unfolding table_printed
 alike_fits refused e = let z : ◌≡◌ {A = ℕ} 0 1 = cc in absurd (omega arith)
 alike_fits {t} {u} {bytes} (made file l m) e = rw (take_at file (drop bytes u) bytes l) (omega arith)
 
 alike_refused :
-    {t u : List ℕ} {bytes : ℕ} {f : Refusal} {a b : Widened} → Alike t u bytes a b → a.answer ≡ answer.Refused f
+    {t u : List ℕ} {bytes : ℕ} {f : Refusal} {a b : Widened} → Alike t u bytes a b → a.answer ≡ Err f
     → (a.table ≡ t) × (refusal_line f ≡ table_printed bytes b.answer b.table)
 unfolding table_printed
 alike_refused refused e = (refl, ap refusal_line (cc))
@@ -138,7 +138,7 @@ alike_refused (made file l m) e = let z : ◌≡◌ {A = ℕ} 0 1 = cc in absurd
 
 -- what the function leaves in the slice and returns
 module _
-    (left right : List ℕ) {a : WidestAnswer} {k after keep : List ℕ} (out : List ℕ)
+    (left right : List ℕ) {a : Result WidestTable Refusal} {k after keep : List ℕ} (out : List ℕ)
     (done : ◌≡◌ {A = Widened} (record { answer = a; keep = k; table = after })
     (widest_outcome program_tick left right keep out))
     (blank : keep ≡ zeros keep_limit) where
@@ -150,20 +150,20 @@ module _
       (outcomes_alike left right (zeros keep_limit) out (zeros (length out)) (length-replicate (length out) 0))
 
   pub widest_laid :
-      {n count : ℕ} {start : Bool} → a ≡ answer.Made count start → n ≡ file_bytes left right
+      {n : ℕ} {table : WidestTable} → a ≡ Ok table → n ≡ file_bytes left right
       → ◌≡◌ {A = Laid} (record { slice = after; count = n }) (laid out (widest_prints (length out) left right))
   unfolding widest_prints
   widest_laid e s = rw s (alike_made alike e)
 
   pub widest_fits :
-      {count : ℕ} {start : Bool} → a ≡ answer.Made count start
+      {table : WidestTable} → a ≡ Ok table
       → length (widest_prints (length out) left right) ≤ length out
   unfolding widest_prints
   widest_fits e = alike_fits alike e
 
-  pub widest_untouched : {f : Refusal} → a ≡ answer.Refused f → after ≡ out
+  pub widest_untouched : {f : Refusal} → a ≡ Err f → after ≡ out
   widest_untouched e = (alike_refused alike e).0
 
-  pub widest_line : {f : Refusal} → a ≡ answer.Refused f → refusal_line f ≡ widest_prints (length out) left right
+  pub widest_line : {f : Refusal} → a ≡ Err f → refusal_line f ≡ widest_prints (length out) left right
   unfolding widest_prints
   widest_line e = (alike_refused alike e).1

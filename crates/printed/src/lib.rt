@@ -5,7 +5,7 @@
 
 ghost use Rattle.std.specs.Prelude.{◌≡◌, [], ◌∷◌, ◌≤◌, length};
 ghost use Rattle.limits.specs.Limits.{keep_limit};
-ghost use Rattle.clocks_read.specs.Reading.{read_outcome};
+ghost use Rattle.clocks_read.specs.Reading.{read_outcome, text_in, states_in};
 ghost use Rattle.byte_slices.specs.Decimal.{ascii};
 ghost use Rattle.tables_header.specs.Header.{table_bytes};
 ghost use Rattle.two_operations.specs.Outcome.{widest_outcome};
@@ -17,11 +17,9 @@ ghost use Rattle.printed.specs.Room.{megzhoi_limit};
 ghost use Rattle.printed.specs.Prints.{program_tick, zeros, entries, counted_bytes, widest_line};
 ghost use Rattle.printed.specs.Prints.{megzhoi_prints, widest_prints, recheck_prints, implementation_prints};
 
-use limits::{KEEP_LIMIT, LARGEST_NAME};
+use limits::{CHANNEL_LIMIT, KEEP_LIMIT, LARGEST_NAME};
 use printed_lines::LINE_LIMIT;
-use refusals::Verdict;
-use search::SearchAnswer;
-use tables::{CheckAnswer, WidestAnswer};
+use reader_record::Channel;
 
 // The tick length of the programs (SPECIFICATION 14.1).
 pub const PROGRAM_TICK: usize = 1;
@@ -37,32 +35,45 @@ const STEP_BYTES: usize = LARGEST_NAME + 2;
 pub const MEGZHOI_LIMIT: usize = LINE_LIMIT + ENTRIES * STEP_BYTES;
 
 // Zeros stand behind functions because antt must not unfold arrays of these lengths.
-fn no_keep() -> [u8; KEEP_LIMIT]
-    ensures { (result ≡ zeros keep_limit) × (length result ≡ keep_limit) }
+#[tactic(auto, unfolding(crate::specs::Prints::zeros))]
+fn no_bytes<const BYTES: usize>() -> [u8; BYTES]
+    ensures { (result ≡ zeros BYTES) × (length result ≡ BYTES) }
 {
-    [0u8; KEEP_LIMIT]
+    [0; BYTES]
 }
 
 fn no_entries() -> [u32; ENTRIES]
     ensures { (result ≡ zeros entries) × (length result ≡ entries) }
 {
-    [0u32; ENTRIES]
+    [0; ENTRIES]
 }
 
-fn no_table() -> [u8; COUNTED_BYTES]
-    ensures { (result ≡ zeros counted_bytes) × (length result ≡ counted_bytes) }
+// How many states a text has; one that is refused has none.
+fn states_of(text: &[u8]) -> usize
+    ensures { result ≡ states_in (read_outcome program_tick text.now) }
 {
-    [0u8; COUNTED_BYTES]
+    match operations::read(PROGRAM_TICK, text) {
+        Ok(reading) => reading.states,
+        Err(_) => 0,
+    }
+}
+
+// The channels of a text; one that is refused has none.
+fn channels_of(text: &[u8]) -> [Channel; CHANNEL_LIMIT]
+    ensures { result ≡ (text_in (read_outcome program_tick text.now)).channels }
+{
+    match operations::read(PROGRAM_TICK, text) {
+        Ok(reading) => reading.text.channels,
+        Err(_) => reader_lists::no_text().channels,
+    }
 }
 
 // How many bytes the table of two texts takes.
 fn table_bytes(left: &[u8], right: &[u8]) -> usize
-    ensures { result ≡ table_bytes (read_outcome program_tick right.now).states
-        (read_outcome program_tick left.now).states }
+    ensures { result ≡ table_bytes (states_in (read_outcome program_tick right.now))
+        (states_in (read_outcome program_tick left.now)) }
 {
-    let l = operations::read(PROGRAM_TICK, left);
-    let r = operations::read(PROGRAM_TICK, right);
-    tables_header::table_length(r.states, l.states)
+    tables_header::table_length(states_of(right), states_of(left))
 }
 
 // No departure: YES and the number of the widest table's pairs, or the refusal.
@@ -73,25 +84,22 @@ fn put_yes(left: &[u8], right: &[u8], out: &mut [u8]) -> usize
     ensures short { length (widest_line (widest_outcome program_tick left.now right.now
         (zeros keep_limit) (zeros counted_bytes)).answer) ≤ line_limit }
 {
-    let mut keep = no_keep();
-    let mut table = no_table();
+    let mut keep = no_bytes::<KEEP_LIMIT>();
+    let mut table = no_bytes::<COUNTED_BYTES>();
     let answer = operations::widest(PROGRAM_TICK, left, right, &mut keep, &mut table);
     match answer {
-        WidestAnswer::Made(count, _) => printed_lines::put_yes(out, 0, count),
-        WidestAnswer::Refused(f) => printed_lines::put_refusal(out, 0, f),
+        Ok(made) => printed_lines::put_yes(out, 0, made.count),
+        Err(f) => printed_lines::put_refusal(out, 0, f),
     }
 }
 
 // A departure: NO, n and the steps, as the left spells its channels.
 fn put_no(left: &[u8], n: usize, run: &[u32], out: &mut [u8]) -> usize
     ensures puts { Puts out.old 0 (departure_lines left.now
-        (read_outcome program_tick left.now).text.channels n run.now) out.new result }
+        (text_in (read_outcome program_tick left.now)).channels n run.now) out.new result }
     ensures short { length (line (ascii "NO") (n ∷ [])) ≤ line_limit }
 {
-    let reading = operations::read(PROGRAM_TICK, left);
-    let t = reading.text;
-    let channels = t.channels;
-    printed_lines::put_departure(out, 0, left, channels, n, run)
+    printed_lines::put_departure(out, 0, left, channels_of(left), n, run)
 }
 
 // Program megzhoi: NO and the steps of a shortest departure, YES and the number of the widest table's pairs, or the
@@ -101,7 +109,7 @@ pub fn megzhoi(left: &[u8], right: &[u8], out: &mut [u8]) -> usize
         (laid out.old (megzhoi_prints left.now right.now)) }
     ensures short { length (megzhoi_prints left.now right.now) ≤ megzhoi_limit }
 {
-    let mut keep = no_keep();
+    let mut keep = no_bytes::<KEEP_LIMIT>();
     let mut back = no_entries();
     let mut line = no_entries();
     let mut run = no_entries();
@@ -115,13 +123,13 @@ pub fn megzhoi(left: &[u8], right: &[u8], out: &mut [u8]) -> usize
         &mut run,
     );
     match answer {
-        SearchAnswer::Found(n) => {
+        Ok(n) => {
             if n == 0 {
                 return put_yes(left, right, out);
             }
             put_no(left, n, &run, out)
         }
-        SearchAnswer::Refused(f) => printed_lines::put_refusal(out, 0, f),
+        Err(f) => printed_lines::put_refusal(out, 0, f),
     }
 }
 
@@ -133,11 +141,11 @@ pub fn widest(left: &[u8], right: &[u8], out: &mut [u8]) -> usize
     ensures fits { line_limit ≤ length out.old → length (widest_prints (length out.old)
         left.now right.now) ≤ length out.old }
 {
-    let mut keep = no_keep();
+    let mut keep = no_bytes::<KEEP_LIMIT>();
     let answer = operations::widest(PROGRAM_TICK, left, right, &mut keep, out);
     match answer {
-        WidestAnswer::Made(_, _) => table_bytes(left, right),
-        WidestAnswer::Refused(f) => printed_lines::put_refusal(out, 0, f),
+        Ok(_) => table_bytes(left, right),
+        Err(f) => printed_lines::put_refusal(out, 0, f),
     }
 }
 
@@ -148,11 +156,11 @@ pub fn recheck(left: &[u8], right: &[u8], table: &[u8], out: &mut [u8]) -> usize
     ensures short { length (recheck_prints left.now right.now table.now)
         ≤ line_limit }
 {
-    let mut keep = no_keep();
+    let mut keep = no_bytes::<KEEP_LIMIT>();
     let answer = operations::check(PROGRAM_TICK, left, right, &mut keep, table);
     match answer {
-        CheckAnswer::Accepted(count) => printed_lines::put_accepted(out, 0, count),
-        CheckAnswer::Refused(f) => printed_lines::put_refusal(out, 0, f),
+        Ok(count) => printed_lines::put_accepted(out, 0, count),
+        Err(f) => printed_lines::put_refusal(out, 0, f),
     }
 }
 
@@ -164,7 +172,7 @@ pub fn implementation(left: &[u8], out: &mut [u8]) -> usize
 {
     let answer = operations::implementation(PROGRAM_TICK, left);
     match answer {
-        Verdict::Accepted => printed_lines::put_passed(out, 0),
-        Verdict::Refused(f) => printed_lines::put_refusal(out, 0, f),
+        Ok(()) => printed_lines::put_passed(out, 0),
+        Err(f) => printed_lines::put_refusal(out, 0, f),
     }
 }

@@ -1,10 +1,13 @@
 -- `megzhoi_c::megzhoi_implementation` meets its contract, by the callees' contracts and the definitions of `Returned`.
-use Rattle.refusals.specs.declared.Verdict.{Verdict}
-use Rattle.megzhoi_c.specs.Returned.{of_verdict}
-use Rattle.megzhoi_c.proofs.Laws.{handed_out}
+use borrow.Author.Rules.{rules}
+use mathlib.Core.Path.{◌≡◌, ap, ◌∙◌}
+use Rattle.std.specs.Prelude.{Result, ⊤}
+use Rattle.refusals.specs.declared.Refusal.{Refusal}
+use Rattle.megzhoi_c.specs.Returned.{of_numbers, of_verdict}
 use Rattle.megzhoi_c.proofs.megzhoi_implementation.Goals as goal
 
 pub returns : goal.returns
-returns c = handed_out (λ (v : Verdict). of_verdict v 0) c.hand_out.ensures
-    c.verdict_returned-f.ensures
-    c.implementation-answer.ensures
+returns c =
+    let numbers : of_numbers c.map.result ≡ of_verdict c.implementation-answer.result 0 = search rules in
+    c.hand_out.ensures ∙ c.numbers_of-f.ensures ∙ numbers
+    ∙ ap (λ (v : Result ⊤ Refusal). of_verdict v 0) c.implementation-answer.ensures

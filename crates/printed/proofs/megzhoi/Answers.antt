@@ -1,5 +1,4 @@
 -- The lines of the search's answer, with slices of zeros.
-use borrow.Author.Rules.{rules}
 use native.Mathlib.Omega.{arith}
 use Rattle.printed.proofs.Fits.{departure_short}
 use mathlib.Core.Path.{◌∙◌}
@@ -10,9 +9,9 @@ use Rattle.printed.proofs.megzhoi.Goals as goal
 pub returns-then-n-eq0 : goal.returns-then-n-eq0
 returns-then-n-eq0 c =
     let args = c.args in
-    let lines = no_departure args.left.now args.right.now _ c.in-Found.is c.if-n-eq0.true
+    let lines = no_departure args.left.now args.right.now _ c.in-Ok.is c.if-n-eq0.true
     ∙ megzhoi_lines args.left.now args.right.now c.search-answer.ensures.0
-    c.no_keep-keep.ensures.0 c.no_entries-back.ensures.1
+    c.no_bytes-keep.ensures.0 c.no_entries-back.ensures.1
     c.no_entries-line.ensures.1 c.no_entries-run.ensures.0 in
     let put = c.put_yes.ensures in
     record { prints = puts_laid (puts_same lines put.puts); short = short_as lines (omega (arith, put.short)) }
@@ -20,23 +19,23 @@ returns-then-n-eq0 c =
 pub returns-else-n-eq0 : goal.returns-else-n-eq0
 returns-else-n-eq0 c =
     let args = c.args in
-    let lines = a_departure args.left.now args.right.now _ c.in-Found.is c.if-n-eq0.false
+    let lines = a_departure args.left.now args.right.now _ c.in-Ok.is c.if-n-eq0.false
     ∙ megzhoi_lines args.left.now args.right.now c.search-answer.ensures.0
-    c.no_keep-keep.ensures.0 c.no_entries-back.ensures.1
+    c.no_bytes-keep.ensures.0 c.no_entries-back.ensures.1
     c.no_entries-line.ensures.1 c.no_entries-run.ensures.0 in
     let put = c.put_no.ensures in record {
       prints = puts_laid (puts_same lines put.puts);
       short = short_as lines (departure_short args.left.now args.right.now c.search-answer.ensures.0
-          c.no_keep-keep.ensures.0 c.no_entries-back.ensures.1
-          c.no_entries-line.ensures.1 c.no_entries-run.ensures.0 c.in-Found.is put.short);
+          c.no_bytes-keep.ensures.0 c.no_entries-back.ensures.1
+          c.no_entries-line.ensures.1 c.no_entries-run.ensures.0 c.in-Ok.is put.short);
     }
 
-pub returns-in-Refused : goal.returns-in-Refused
-returns-in-Refused c =
+pub returns-in-Err : goal.returns-in-Err
+returns-in-Err c =
     let args = c.args in
-    let lines = search_refused args.left.now args.right.now _ c.in-Refused.is
+    let lines = search_refused args.left.now args.right.now _ c.in-Err.is
     ∙ megzhoi_lines args.left.now args.right.now c.search-answer.ensures.0
-    c.no_keep-keep.ensures.0 c.no_entries-back.ensures.1
+    c.no_bytes-keep.ensures.0 c.no_entries-back.ensures.1
     c.no_entries-line.ensures.1 c.no_entries-run.ensures.0 in
     let put = c.put_refusal.ensures in
     record { prints = puts_laid (puts_same lines put.puts); short = short_as lines (omega (arith, put.short)) }
