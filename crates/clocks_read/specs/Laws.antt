@@ -96,7 +96,7 @@ module _ (period : ℕ) where
       let r = read_accepted s e in
       rw r.same (filled_holds (read_text period s) m h r.parsed (rw r.same at r.accepted.clean))
 
-  -- a text that is refused when it is measured is refused by reading, and its slices stay as they are
+  -- a text that is refused when it is measured is refused by reading
   pub measured_refused : (s : List ℕ) (f : Refusal) → Measures period s (Err f) → read_outcome period s ≡ Err f
   unfolding read_outcome parsed_reading
   measured_refused s f e = rw (sym e.parsed)

@@ -21,7 +21,7 @@ use Rattle.joined.proofs.Formed.{text_formed}
 use Rattle.joined_written.specs.Text.{text_same}
 use Rattle.writer_lists.specs.Lists.{TextWithin}
 use Rattle.joining_edges.specs.Edges.{by_map}
-use Rattle.joining_record.specs.Records.{Joins, JoinsRecords}
+use Rattle.joining_record.specs.Records.{JoinedRecord, JoinsRecords}
 use Rattle.joining_record.specs.Table.{joined_by_table}
 use Rattle.joining.specs.Outcome.{Outcome, refused, record_outcome}
 use Rattle.joining.specs.Ready.{Ready, bytes_outcome}
@@ -74,12 +74,12 @@ unfolding JoinsRecords
 not_joined l r map j b e = rw e at b
 
 joins_some : (l r : Text) (map : List ℕ) (j : Option Text) (t : Text) → JoinsRecords l r map j → j ≡ Some t
-    → Joins l r map t
+    → JoinedRecord l r map t
 unfolding JoinsRecords
 joins_some l r map j t b e = rw e at b
 
 pub joins : (l r : Text) (map : List ℕ) (j : Option Text) (q : Result Text Refusal) (t : Text)
-    → JoinsRecords l r map j → q ≡ ok_or j LimitExceeded → q ≡ Ok t → Joins l r map t
+    → JoinsRecords l r map j → q ≡ ok_or j LimitExceeded → q ≡ Ok t → JoinedRecord l r map t
 joins l r map j q t b a e = joins_some l r map j t b (some_of j q t a e)
 
 -- for the records l and r of the texts `left` and `right`, by a table of the right's numbers of the left's steps
@@ -105,7 +105,7 @@ module _ (left right : List ℕ) (l r : Text) (ready : Ready left l right r) {ma
       rw (is_refused a h, n.1) (over_counts J z out (sym (ap counts_fit same_record) ∙ not_joined l r map j b n.0))
 
   -- else t is a record that says the same
-  module _ {t : Text} (built : Joins l r map t) where
+  module _ {t : Text} (built : JoinedRecord l r map t) where
     fit : counts_fit J ≡ true
     fit = sym (ap counts_fit same_record) ∙ built.fits
 

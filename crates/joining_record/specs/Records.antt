@@ -14,7 +14,7 @@ invariant_at locations i = (get_or locations i no_location).invariant
 
 -- t is the record of the texts l and r joined, which is within the limits: it says the same, with the left's names of
 -- the channels
-pub record Joins (l r : Text) (map : List ℕ) (t : Text) : Type 0 where
+pub record JoinedRecord (l r : Text) (map : List ℕ) (t : Text) : Type 0 where
   pub fits : counts_fit (joined_text (by_map map) l r) ≡ true
   pub alike : Alike (joined_text (by_map map) l r) t
   pub names : (i : ℕ) → i < l.channel_count
@@ -25,4 +25,4 @@ pub record Joins (l r : Text) (map : List ℕ) (t : Text) : Type 0 where
 -- channels
 unfoldable pub JoinsRecords : Text → Text → List ℕ → Option Text → Type 0
 JoinsRecords l r map None = counts_fit (joined_text (by_map map) l r) ≡ false
-JoinsRecords l r map (Some t) = Joins l r map t
+JoinsRecords l r map (Some t) = JoinedRecord l r map t

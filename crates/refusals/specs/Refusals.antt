@@ -129,7 +129,7 @@ q (TickOutOfRange _) = 0
 q LimitExceeded = 0
 q (OutTooShort _) = 0
 
--- the same refusal with another file mark
+-- the same refusal with another file mark; one that carries no file stays as it is
 abbrev pub in_file : File → Refusal → Refusal
 in_file f (TextTooLong _) = TextTooLong f
 in_file f (Misfit _ place) = Misfit f place

@@ -5,7 +5,6 @@ ghost use Rattle.std.specs.Prelude.{◌≡◌, ◌≤◌, ◌<◌};
 ghost use Rattle.limits.specs.Limits.{state_limit};
 ghost use Rattle.refusals.specs.Refusals.{mark, code, file, p, q, in_file, rule_broken};
 
-use std::fmt;
 use steps::Step;
 
 // The file that a refusal concerns: none, the left or only text, the right text (SPECIFICATION 13.2).
@@ -193,7 +192,8 @@ impl Refusal {
         }
     }
 
-    // The same refusal for another file: a text is read as the only one, and may be the right one of two.
+    // The same refusal for another file: a text is read as the only one, and may be the right one of two. A refusal that
+    // carries no file stays as it is.
     pub fn in_file(self, file: File) -> Refusal
         ensures { result ≡ in_file file self }
     {
@@ -217,77 +217,6 @@ impl Refusal {
             ),
             Refusal::NeitherPossible(_, state) => Refusal::NeitherPossible(file, state),
             other => other,
-        }
-    }
-}
-
-// For people: C and the programs read the numbers.
-impl fmt::Display for Refusal {
-    fn fmt<W: fmt::Write>(&self, f: &mut fmt::Formatter<W>) -> fmt::Result {
-        match *self {
-            Refusal::TextTooLong(_) => write!(f, "a text over its limit"),
-            Refusal::Misfit(_, p) => write!(f, "a token in a place where it does not fit: {p}"),
-            Refusal::NameTooLong(_, p) => write!(f, "a name over its limit: {p}"),
-            Refusal::DeclaredBefore(_, p) => write!(f, "a second declaration of a name: {p}"),
-            Refusal::UnknownName(_, p) => write!(
-                f,
-                "the use of a name that has no declaration, or one of another kind: {p}"
-            ),
-            Refusal::ConstantTooLarge(_, p) => write!(f, "a constant over its limit: {p}"),
-            Refusal::TooManyItems(_, p) => write!(f, "one item too many: {p}"),
-            Refusal::OtherMark(_, p) => write!(f, "a channel that has both marks: {p}"),
-            Refusal::TooManyStates(_, p) => write!(f, "more states than the limit: {p}"),
-            Refusal::InputWithoutMove(_, p, q) => write!(
-                f,
-                "a state in which an input has no move: {p} {q}"
-            ),
-            Refusal::TwoEdges(_, p, q) => write!(
-                f,
-                "a state in which two edges give moves by one channel that lead to different states: {p} {q}"
-            ),
-            Refusal::UnmatchedChannel(_, p) => write!(
-                f,
-                "a channel that the two texts do not have alike: {p}"
-            ),
-            Refusal::KeepTooShort(p) => write!(f, "too few bytes of keep: {p}"),
-            Refusal::TableTooShort(p) => write!(f, "too few bytes for the widest table: {p}"),
-            Refusal::QueueTooShort(p) => write!(f, "too few entries of back or of line: {p}"),
-            Refusal::OtherTable => write!(
-                f,
-                "a given table that is not laid out for these two texts"
-            ),
-            Refusal::StartNotSafe(p) => write!(
-                f,
-                "a left text whose start is not among its safe states: {p}"
-            ),
-            Refusal::StartPairNotSet(p, q) => write!(
-                f,
-                "a given table without the pair of starts: {p} {q}"
-            ),
-            Refusal::PairNotAllowed(p, q) => write!(
-                f,
-                "a pair in a given table that its s or its t alone rules out: {p} {q}"
-            ),
-            Refusal::RuleBroken(step, q) => write!(
-                f,
-                "a pair in a given table that fails the rules for a step: {} {q}",
-                step.number
-            ),
-            Refusal::RunTooShort(p) => write!(
-                f,
-                "a departure that is longer than the run slice: {p}"
-            ),
-            Refusal::OutputBesideTick(_, p, q) => write!(
-                f,
-                "a reachable state in which an output and a tick are both possible: {p} {q}"
-            ),
-            Refusal::NeitherPossible(_, p) => write!(
-                f,
-                "a reachable state in which neither is possible: {p}"
-            ),
-            Refusal::TickOutOfRange(p) => write!(f, "a tick length that is not allowed: {p}"),
-            Refusal::LimitExceeded => write!(f, "two texts whose joined text would pass a limit"),
-            Refusal::OutTooShort(p) => write!(f, "too few bytes for the joined text: {p}"),
         }
     }
 }
