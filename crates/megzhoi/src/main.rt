@@ -8,12 +8,11 @@ ghost use Rattle.printed.specs.Room.{megzhoi_limit};
 use printed::MEGZHOI_LIMIT;
 use std::io;
 
-// Room for everything that can be printed. It stands behind a function because antt must not unfold an array of this
-// length.
+// Room for everything that can be printed.
 fn room() -> [u8; MEGZHOI_LIMIT]
     ensures { length result ≡ megzhoi_limit }
 {
-    [0u8; MEGZHOI_LIMIT]
+    programs::room()
 }
 
 fn main(rt: HostRuntime) -> io::Result<()> {
