@@ -8,11 +8,11 @@ ghost use Rattle.printed_join.specs.Prints.{join_room};
 use limits::LARGEST_TEXT;
 use std::io;
 
-// Room for the longest text. It stands behind a function because antt must not unfold an array of this length.
+// Room for the longest text.
 fn room() -> [u8; LARGEST_TEXT]
     ensures { length result ≡ join_room }
 {
-    [0u8; LARGEST_TEXT]
+    programs::room()
 }
 
 fn main(rt: HostRuntime) -> io::Result<()> {

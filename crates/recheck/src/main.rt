@@ -9,14 +9,13 @@ use printed_lines::LINE_LIMIT;
 use std::io;
 use tables_header::TABLE_LIMIT;
 
-// Room for every table that two texts can have, and one byte more, so that a longer file is seen to be longer. It stands
-// behind a function because antt must not unfold an array of this length.
+// Room for every table that two texts can have, and one byte more, so that a longer file is seen to be longer.
 const ROOM: usize = TABLE_LIMIT + 1;
 
 fn room() -> [u8; ROOM]
     ensures { length result ≡ table_limit + 1 }
 {
-    [0u8; ROOM]
+    programs::room()
 }
 
 fn main(rt: HostRuntime) -> io::Result<()> {

@@ -8,12 +8,11 @@ ghost use Rattle.tables_header.specs.Header.{table_limit};
 use std::io;
 use tables_header::TABLE_LIMIT;
 
-// Room for every table that two texts can have. It stands behind a function because antt must not unfold an array of
-// this length.
+// Room for every table that two texts can have.
 fn room() -> [u8; TABLE_LIMIT]
     ensures { length result ≡ table_limit }
 {
-    [0u8; TABLE_LIMIT]
+    programs::room()
 }
 
 fn main(rt: HostRuntime) -> io::Result<()> {
