@@ -56,13 +56,15 @@ pub fn count(s: &[u8], n: usize) -> usize
     r
 }
 
-// The first m bytes of k, written into s.
-#[tactic(auto, using(crate::specs::BitLaws::written_front))]
+// The first m bytes of k, written into s. Kept as a loop: copy_from_slice calls memmove, and the archive for C needs
+// memcpy and memset alone (library/megzhoi.h).
 pub fn copy(s: &mut [u8], k: &[u8], m: usize)
     requires { (m ≤ length s.old) × (m ≤ length k.now) }
     ensures { s.new ≡ written (λ (i : ℕ). get_or k.now i 0) m s.old }
 {
-    s[..m].copy_from_slice(&k[..m]);
+    for i in 0..m {
+        s[i] = k[i];
+    }
 }
 
 // Sets bit i, which is not set, where b says so.
