@@ -1,6 +1,8 @@
 // What the test programs share: numbers in decimal, cases that a byte parts, and a refusal as four numbers.
 #![tactic(auto)]
 
+ghost use Rattle.std.specs.Prelude.{◌≤◌};
+
 use refusals::Refusal;
 use std::io;
 
@@ -10,7 +12,9 @@ pub const BETWEEN: u8 = b'#';
 const TEN: usize = 10;
 
 // The value of a digit; any other byte counts as 0.
-fn digit(byte: u8) -> usize {
+fn digit(byte: u8) -> usize
+    ensures { result ≤ 9 }
+{
     match byte {
         b'0'..=b'9' => usize::from(byte - b'0'),
         _ => 0,
@@ -35,6 +39,7 @@ pub fn decimal(s: &[u8]) -> usize {
 }
 
 // Shows each case of the input: a tick length in decimal and a text, with the byte between them and between two cases.
+// A tick length at the end that has no text behind it is shown with the empty one.
 pub fn for_each_case<F: FnMut(usize, &[u8]) -> io::Result<()>>(
     s: &[u8],
     mut show: F,
@@ -51,7 +56,10 @@ pub fn for_each_case<F: FnMut(usize, &[u8]) -> io::Result<()>>(
             }
         }
     }
-    Ok(())
+    match (period, s.last()) {
+        (Some(length), Some(byte)) if *byte != BETWEEN => show(length, &[]),
+        _ => Ok(()),
+    }
 }
 
 // Code, file mark, p and q, with a space before each.

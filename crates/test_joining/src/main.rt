@@ -5,6 +5,8 @@
 // What is expected comes from tests/make_cases.py, by an independent reading of docs/SPECIFICATION.md.
 #![tactic(auto)]
 
+ghost use Rattle.std.specs.Prelude.{◌≡◌, length};
+
 use limits::SHORTEST_TICK;
 use std::io;
 use test_input::{BETWEEN, decimal, put_refusal};
@@ -40,7 +42,9 @@ fn put_kept(rt: &impl Print, s: &[u8]) -> io::Result<()> {
 }
 
 // Entries to lend. They stand behind a function because antt must not unfold an array of this length.
-fn entries() -> [u32; ENTRY_ROOM] {
+fn entries() -> [u32; ENTRY_ROOM]
+    ensures { length result ≡ 131072 }
+{
     [0; ENTRY_ROOM]
 }
 
@@ -147,14 +151,22 @@ fn show_case(rt: &impl Print, case: &Case, n: usize) -> io::Result<()> {
     }
 }
 
+// All cases of the input. A byte between behind the last part begins no other one, and parts that the last case does
+// not have are empty.
 fn show_all(rt: &impl Print, s: &[u8]) -> io::Result<()> {
+    if s.is_empty() {
+        return Ok(());
+    }
+    let whole = s.strip_suffix(&[BETWEEN]).unwrap_or(s);
+    let missing: [&[u8]; PARTS - 1] = [&[]; PARTS - 1];
     let mut case = Case {
         period: 0,
         left: &[],
         right: &[],
     };
     let mut bytes = 0;
-    for (k, part) in s.split(|byte| *byte == BETWEEN).enumerate() {
+    let parts = whole.split(|byte| *byte == BETWEEN).chain(missing);
+    for (k, part) in parts.enumerate() {
         match k % PARTS {
             0 => case.period = decimal(part),
             1 => bytes = decimal(part),

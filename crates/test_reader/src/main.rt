@@ -4,6 +4,8 @@
 // The expected output comes from tests/make_cases.py, by an independent reading of docs/SPECIFICATION.md.
 #![tactic(auto)]
 
+ghost use Rattle.std.specs.Prelude.{◌≤◌, ◌<◌, length, IfOk, IfSome};
+
 use limits::LARGEST_TEXT;
 use std::io;
 
@@ -14,6 +16,12 @@ const INPUT_ROOM: usize = 262144;
 const TEXT_END: u8 = b'%';
 
 const LINE_END: u8 = b'\n';
+
+// The bytes between a text and its tick length: `%`, how it is read, and a space.
+const MIDDLE_BYTES: usize = 3;
+
+// So many texts are told apart by their number.
+const LAST_NUMBER: usize = 1000;
 
 // The text t from a place on, with spaces before it and after its end.
 fn lay(t: &[u8], from: usize, room: &mut [u8]) {
@@ -54,32 +62,35 @@ fn show_as(rt: &impl Print, period: usize, t: &[u8], how: u8) -> io::Result<()> 
     }
 }
 
-// A text that ends, and what stands from there to the next one's end: how it is read, a space, its tick length, a line
-// feed and the next text, which is answered.
-fn show_next<'a>(rt: &impl Print, k: usize, text: &[u8], part: &'a [u8]) -> io::Result<&'a [u8]> {
-    let Some(([how, _], rest)) = part.split_first_chunk::<2>() else {
-        return Ok(&[]);
-    };
-    let end = rest
-        .iter()
-        .position(|byte| *byte == LINE_END)
-        .unwrap_or(rest.len());
-    let Some((number, behind)) = rest.split_at_checked(end) else {
-        return Ok(&[]);
-    };
-    rt.print(k)?;
-    show_as(rt, test_input::decimal(number), text, *how)?;
-    Ok(behind.get(1..).unwrap_or(&[]))
+// The place of the first such byte, or the end.
+fn end_of(s: &[u8], byte: u8) -> usize
+    ensures { result ≤ length s.now }
+{
+    s.iter().position(|at| *at == byte).unwrap_or(s.len())
 }
 
+// The text that s begins with, under its number; answers what stands behind its line, if the text ends.
+fn show_next<'a>(rt: &impl Print, k: usize, s: &'a [u8]) -> io::Result<Option<&'a [u8]>>
+    ensures { IfOk result (λ next. IfSome next (λ rest. length rest.now < length s.now)) }
+{
+    let (text, from_end) = s.split_at(end_of(s, TEXT_END));
+    let Some(([_, how, _], line)) = from_end.split_first_chunk::<MIDDLE_BYTES>() else {
+        return Ok(None);
+    };
+    let (number, behind) = line.split_at(end_of(line, LINE_END));
+    rt.print(k)?;
+    show_as(rt, test_input::decimal(number), text, *how)?;
+    Ok(Some(behind.get(1..).unwrap_or(&[])))
+}
+
+// All texts; there are no more of them than bytes.
 fn texts(rt: &impl Print, s: &[u8]) -> io::Result<()> {
-    let mut text: &[u8] = &[];
-    for (k, part) in s.split(|byte| *byte == TEXT_END).enumerate() {
-        text = if k == 0 {
-            part
-        } else {
-            show_next(rt, k, text, part)?
+    let mut rest = s;
+    for k in 1..=s.len() {
+        let Some(behind) = show_next(rt, k.min(LAST_NUMBER), rest)? else {
+            return Ok(());
         };
+        rest = behind;
     }
     Ok(())
 }
