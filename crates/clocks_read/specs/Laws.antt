@@ -5,7 +5,6 @@ use Rattle.std.proofs.Common.{sym, ◌∙◌, arith, le-ltb}
 use Rattle.refusals.specs.declared.Refusal.{Refusal}
 use Rattle.refusals.specs.Answers.{answer_of}
 use Rattle.reader_record.specs.declared.Text.{Text}
-use Rattle.reader_lists.specs.State.{no_text}
 use Rattle.reader.specs.Reading.{record_of, read_text}
 use Rattle.reader_formed.proofs.Formed.{read_formed}
 use Rattle.bitmaps.specs.Bits.{written}
@@ -16,17 +15,17 @@ use Rattle.clocks.specs.Encoding.{table_entry, table_size, judged_table, judged_
 use Rattle.clocks.specs.Accepted as accepted
 use Rattle.clocks.proofs.Judgement.{judgement_few}
 use Rattle.clocks_read.specs.declared.Reading.{Reading}
-use Rattle.clocks_read.specs.Reading.{judged_reading, parsed_reading, read_outcome, text_in, states_in}
+use Rattle.clocks_read.specs.Reading.{judged_reading, parsed_reading, read_outcome, text_in, states_in, NothingRead}
 use Rattle.clocks_read.specs.Loading.{Loading, judged_loading, parsed_loading, load_outcome}
 use Rattle.limits.specs.Limits.{state_limit}
 use Rattle.clocks_states.specs.Parts.{Counted}
 use Rattle.clocks_read.specs.declared.Measured.{Measured}
 use Rattle.clocks_read.specs.Measured.{Measures, measured_loading}
 
--- beside a refusal the record is empty and the number of states 0
-pub empty_refused : (r : Result Reading Refusal) → OnErr r ((text_in r ≡ no_text) × (states_in r ≡ 0))
-empty_refused (Ok x) = tt
-empty_refused (Err f) = (refl, refl)
+-- beside a refusal nothing is read
+pub nothing_refused : (r : Result Reading Refusal) → OnErr r (NothingRead r)
+nothing_refused (Ok x) = tt
+nothing_refused (Err f) = (refl, refl)
 
 judged_accepted : (j : Result ⊤ Flaw) (t : Text) → answer_of (judged_reading j t) ≡ Ok tt → (j ≡ Ok tt)
     × (text_in (judged_reading j t) ≡ t) × (states_in (judged_reading j t) ≡ state_count t)

@@ -3,9 +3,8 @@
 #![tactic(auto)]
 
 ghost use Rattle.std.specs.Prelude.{◌≡◌, OnErr, length};
-ghost use Rattle.reader_lists.specs.State.{no_text};
 ghost use Rattle.clocks_table.specs.Room.{Room};
-ghost use Rattle.clocks_read.specs.Reading.{flaw_refusal, text_in, states_in};
+ghost use Rattle.clocks_read.specs.Reading.{flaw_refusal, text_in, states_in, NothingRead};
 ghost use Rattle.clocks_read.specs.Loading.{Loading};
 ghost use Rattle.clocks_read.specs.Measured.{Measures, WellMeasured, states_of, measured_loading};
 
@@ -84,7 +83,7 @@ pub fn judge(
     requires { WellMeasured measured × Room (states_of measured) (length moves.old) (length holds.old) }
     ensures loading { ◌≡◌ {A = Loading} (record { reading = result; moves = moves.new; holds = holds.new })
         (measured_loading measured moves.old holds.old) }
-    ensures refused { OnErr result ((text_in result ≡ no_text) × (states_in result ≡ 0)) }
+    ensures refused { OnErr result (NothingRead result) }
 {
     let m = measured?;
     let t = m.text;
