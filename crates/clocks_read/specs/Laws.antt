@@ -1,5 +1,5 @@
--- What an accepted reading says of the record, and that a text that is measured first is read as the text.
-use Rattle.std.specs.Prelude.{◌≡◌, false, List, ℕ, Result, Ok, Err, ⊤}
+-- What a reading says of the record, and that a text that is measured first is read as the text.
+use Rattle.std.specs.Prelude.{◌≡◌, false, List, ℕ, Result, Ok, Err, OnErr, ⊤}
 use Rattle.std.proofs.Math.Path.{refl, ap}
 use Rattle.std.proofs.Common.{sym, ◌∙◌, arith, le-ltb}
 use Rattle.refusals.specs.declared.Refusal.{Refusal}
@@ -14,12 +14,18 @@ use Rattle.clocks.specs.States.{state_count, too_many, judgement, invariants}
 use Rattle.clocks.specs.Encoding.{table_entry, table_size, judged_table, judged_holds}
 use Rattle.clocks.specs.Accepted as accepted
 use Rattle.clocks.proofs.Judgement.{judgement_few}
-use Rattle.clocks_read.specs.Reading.{judged_reading, parsed_reading, read_outcome, text_in, states_in}
+use Rattle.clocks_read.specs.declared.Reading.{Reading}
+use Rattle.clocks_read.specs.Reading.{judged_reading, parsed_reading, read_outcome, text_in, states_in, NothingRead}
 use Rattle.clocks_read.specs.Loading.{Loading, judged_loading, parsed_loading, load_outcome}
 use Rattle.limits.specs.Limits.{state_limit}
 use Rattle.clocks_states.specs.Parts.{Counted}
 use Rattle.clocks_read.specs.declared.Measured.{Measured}
 use Rattle.clocks_read.specs.Measured.{Measures, measured_loading}
+
+-- beside a refusal nothing is read
+pub nothing_refused : (r : Result Reading Refusal) → OnErr r (NothingRead r)
+nothing_refused (Ok x) = tt
+nothing_refused (Err f) = (refl, refl)
 
 judged_accepted : (j : Result ⊤ Flaw) (t : Text) → answer_of (judged_reading j t) ≡ Ok tt → (j ≡ Ok tt)
     × (text_in (judged_reading j t) ≡ t) × (states_in (judged_reading j t) ≡ state_count t)

@@ -1,5 +1,5 @@
 -- The operation that reads a text: what it gives for each text (SPECIFICATION 12.1, 13.4).
-use Rattle.std.specs.Prelude.{List, ℕ, Result, Ok, Err, ⊤}
+use Rattle.std.specs.Prelude.{◌≡◌, List, ℕ, Result, Ok, Err, ⊤}
 use Rattle.refusals.specs.declared.File.TheVariants.{Left}
 use Rattle.refusals.specs.declared.Refusal.{Refusal}
 use Rattle.refusals.specs.declared.Refusal.TheVariants as refusal
@@ -35,6 +35,10 @@ text_in (Err f) = no_text
 abbrev pub states_in : Result Reading Refusal → ℕ
 states_in (Ok r) = r.states
 states_in (Err f) = 0
+
+-- nothing is read: the record is empty and the number of states 0 (SPECIFICATION 12.1)
+abbrev pub NothingRead : Result Reading Refusal → Type 0
+NothingRead r = (text_in r ≡ no_text) × (states_in r ≡ 0)
 
 -- at one tick length, `period` (SPECIFICATION 4.7)
 module _ (period : ℕ) where

@@ -2,9 +2,9 @@
 // count are returned.
 #![tactic(auto)]
 
-ghost use Rattle.std.specs.Prelude.{◌≡◌, length};
+ghost use Rattle.std.specs.Prelude.{◌≡◌, OnErr, length};
 ghost use Rattle.clocks_table.specs.Room.{Room};
-ghost use Rattle.clocks_read.specs.Reading.{flaw_refusal};
+ghost use Rattle.clocks_read.specs.Reading.{flaw_refusal, text_in, states_in, NothingRead};
 ghost use Rattle.clocks_read.specs.Loading.{Loading};
 ghost use Rattle.clocks_read.specs.Measured.{Measures, WellMeasured, states_of, measured_loading};
 
@@ -17,6 +17,26 @@ use refusals::{File, Refusal};
 pub struct Reading {
     pub text: Text,
     pub states: usize,
+}
+
+// The record that reading gives; beside a refusal the empty record (SPECIFICATION 12.1).
+pub fn text_in(reading: &Result<Reading, Refusal>) -> Text
+    ensures { result ≡ text_in reading.now }
+{
+    match reading {
+        Ok(r) => r.text,
+        Err(_) => reader_lists::no_text(),
+    }
+}
+
+// The number of states that reading gives; beside a refusal 0 (SPECIFICATION 12.1).
+pub fn states_in(reading: &Result<Reading, Refusal>) -> usize
+    ensures { result ≡ states_in reading.now }
+{
+    match reading {
+        Ok(r) => r.states,
+        Err(_) => 0,
+    }
 }
 
 // A text that is parsed, the ranges of its clocks and the number of its states.
@@ -53,15 +73,17 @@ pub fn measure(period: usize, text: &[u8]) -> Result<Measured, Refusal>
 }
 
 // Judges a text that is parsed and measured by codes 9 to 11: the move table and the bits of the states whose invariant
-// holds are filled, for an operation that goes on with its states. One that is refused stays so, and leaves both.
+// holds are filled, for an operation that goes on with its states. One that is refused stays so, and leaves both; the
+// record beside the refusal is empty and the number of states 0 (SPECIFICATION 12.1).
 pub fn judge(
     measured: Result<Measured, Refusal>,
     moves: &mut [u16],
     holds: &mut [u8],
 ) -> Result<Reading, Refusal>
     requires { WellMeasured measured × Room (states_of measured) (length moves.old) (length holds.old) }
-    ensures { ◌≡◌ {A = Loading} (record { reading = result; moves = moves.new; holds = holds.new })
+    ensures loading { ◌≡◌ {A = Loading} (record { reading = result; moves = moves.new; holds = holds.new })
         (measured_loading measured moves.old holds.old) }
+    ensures refused { OnErr result (NothingRead result) }
 {
     let m = measured?;
     let t = m.text;

@@ -30,7 +30,7 @@ use Rattle.bitmaps.specs.Packed.{bytes_for}
 use Rattle.clocks.specs.States.{state_count}
 use Rattle.tables_header.specs.Header.{header_bytes, table_bytes, fits}
 use Rattle.clocks_read.specs.declared.Reading.{Reading}
-use Rattle.clocks_read.specs.Reading.{parsed_reading, read_outcome}
+use Rattle.clocks_read.specs.Reading.{parsed_reading, read_outcome, NothingRead}
 use Rattle.pairing.specs.Channels as channels
 use Rattle.two_texts.specs.Two.{text_of, tick_judged, too_long_in, refused_in, refused_pairing, or_else, texts_judged, channels_judged, two_judged, left_system, right_system, judged_by}
 use Rattle.two_texts.proofs.Laws.{compared, judged_by_some}
@@ -68,6 +68,9 @@ module _ (period : ℕ) (not_allowed : tick_allowed period ≡ false) where
   unfolding read_outcome parsed_reading
   read_refused s = ap parsed_reading (parsed_refused s)
 
+  nothing_read : (s : List ℕ) → NothingRead (read_outcome period s)
+  nothing_read s = rw (read_refused s) (refl, refl)
+
   two_refused : (left right : List ℕ) → two_judged period left right ≡ some (TickOutOfRange period)
   unfolding two_judged texts_judged tick_judged or_else
   two_refused left right = rw not_allowed
@@ -76,7 +79,7 @@ module _ (period : ℕ) (not_allowed : tick_allowed period ≡ false) where
   unfolding safe_outcome safe.answered implementation_outcome checking.answered search_outcome check_outcome
       widest_outcome join_outcome joining.refused
   length_refused = record {
-    read = read_refused;
+    read = λ s. (read_refused s, nothing_read s);
     safe_states = λ s keep. ap (λ (r : Result Reading Refusal). safe.answered r keep) (read_refused s);
     implementation = λ s. ap checking.answered (read_refused s);
     search = λ left right keep back line run. judged_by_some (two_judged period left right) _ _ _

@@ -5,7 +5,7 @@ use Rattle.std.specs.Prelude.{◌≡◌, List, ℕ, ◌+◌, ◌*◌, ◌≤◌,
 use Rattle.limits.specs.Limits.{TickLength, shortest_tick}
 use Rattle.refusals.specs.declared.Refusal.TheVariants.{TickOutOfRange}
 use Rattle.reader_constraints.specs.Constraints.{in_ticks}
-use Rattle.clocks_read.specs.Reading.{read_outcome}
+use Rattle.clocks_read.specs.Reading.{read_outcome, NothingRead}
 use Rattle.safe_states.specs.Outcome.{safe_outcome}
 use Rattle.implementation_check.specs.Outcome.{implementation_outcome}
 use Rattle.two_operations.specs.Outcome.{search_outcome, check_outcome, widest_outcome}
@@ -25,9 +25,10 @@ pub record TicksDemand : Type 0 where
   -- at tick length 1 it is the numeral's value
   pub one : (c : ℕ) → in_ticks shortest_tick c ≡ c
 
--- a tick length that is not allowed: each operation gives 24, and everything lent is as it came
+-- a tick length that is not allowed: each operation gives 24, reading gives nothing beside it, and everything lent is as
+-- it came
 pub record LengthRefused (period : ℕ) : Type 0 where
-  pub read : (s : List ℕ) → read_outcome period s ≡ Err (TickOutOfRange period)
+  pub read : (s : List ℕ) → (read_outcome period s ≡ Err (TickOutOfRange period)) × NothingRead (read_outcome period s)
   pub safe_states : (s keep : List ℕ)
       → safe_outcome period s keep ≡ record { answer = Err (TickOutOfRange period); keep = keep }
   pub implementation : (s : List ℕ) → implementation_outcome period s ≡ Err (TickOutOfRange period)

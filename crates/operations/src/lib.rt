@@ -5,10 +5,10 @@
 // them and hands them to the layers below. Nothing is on the heap, so no call can run out of memory.
 #![tactic(auto)]
 
-ghost use Rattle.std.specs.Prelude.{◌≡◌, ◌≤◌, Ok, length};
+ghost use Rattle.std.specs.Prelude.{◌≡◌, ◌≤◌, Ok, OnErr, length};
 ghost use Rattle.limits.specs.Limits.{state_limit, move_limit, keep_limit};
 ghost use Rattle.clocks_table.specs.Room.{Room};
-ghost use Rattle.clocks_read.specs.Reading.{read_outcome};
+ghost use Rattle.clocks_read.specs.Reading.{read_outcome, NothingRead};
 ghost use Rattle.clocks_read.specs.Measured.{Measures};
 ghost use Rattle.implementation_check.specs.Outcome.{implementation_outcome};
 ghost use Rattle.implementation_check.specs.Ready.{Entries};
@@ -39,9 +39,11 @@ fn read_within<const MOVES: usize, const BYTES: usize>(
     clocks_read::judge(Ok(m), &mut [0; MOVES], &mut [0; BYTES])
 }
 
-// Reads a text: its record and state count, or codes 24 and 1 to 11 (SPECIFICATION 12.1).
+// Reads a text: its record and state count, or codes 24 and 1 to 11; beside a refusal the record is empty and the number
+// of states 0 (SPECIFICATION 12.1).
 pub fn read(period: usize, text: &[u8]) -> Result<Reading, Refusal>
-    ensures { result ≡ read_outcome period text.now }
+    ensures outcome { result ≡ read_outcome period text.now }
+    ensures refused { OnErr result (NothingRead result) }
 {
     let parsed = clocks_read::measure(period, text)?;
     if parsed.states <= FEW_STATES {

@@ -52,20 +52,14 @@ fn no_entries() -> [u32; ENTRIES]
 fn states_of(text: &[u8]) -> usize
     ensures { result ≡ states_in (read_outcome program_tick text.now) }
 {
-    match operations::read(PROGRAM_TICK, text) {
-        Ok(reading) => reading.states,
-        Err(_) => 0,
-    }
+    clocks_read::states_in(&operations::read(PROGRAM_TICK, text))
 }
 
 // The channels of a text; one that is refused has none.
 fn channels_of(text: &[u8]) -> [Channel; CHANNEL_LIMIT]
     ensures { result ≡ (text_in (read_outcome program_tick text.now)).channels }
 {
-    match operations::read(PROGRAM_TICK, text) {
-        Ok(reading) => reading.text.channels,
-        Err(_) => reader_lists::no_text().channels,
-    }
+    clocks_read::text_in(&operations::read(PROGRAM_TICK, text)).channels
 }
 
 // How many bytes the table of two texts takes.

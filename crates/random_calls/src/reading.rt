@@ -41,6 +41,16 @@ fn answer_of(r: &Result<Reading, Refusal>) -> Answer {
     }
 }
 
+// Whether nothing is read beside a refusal: the empty record and the number 0 (SPECIFICATION 12.1).
+fn is_nothing(answer: &Result<clocks_read::Reading, Refusal>) -> bool {
+    let t = clocks_read::text_in(answer);
+    t.channel_count == 0
+        && t.clock_count == 0
+        && t.location_count == 0
+        && t.edge_count == 0
+        && clocks_read::states_in(answer) == 0
+}
+
 // Counts what an accepted text has.
 fn count_text(r: &Reading, tally: &mut Tally) {
     add(&mut tally.parallel, has_parallel(r));
@@ -57,8 +67,8 @@ fn is_right(r: &Result<Reading, Refusal>, t: &Text, g: &Shape, p: &Pen, is_damag
     }
 }
 
-// Reading: the answer, the number of states, the counts of the record, and its constants, which are those that the
-// enumerator has.
+// Reading: the answer, the number of states, the counts of the record, those of the empty one beside a refusal, and its
+// constants, which are those that the enumerator has.
 pub fn read_case(
     period: usize,
     text: &[u8],
@@ -72,12 +82,13 @@ pub fn read_case(
     if let Ok(r) = &r {
         count_text(r, tally);
     }
-    let (got, made) = match operations::read(period, text) {
+    let answer = operations::read(period, text);
+    let (got, made) = match &answer {
         Ok(own) => (
             Ok(answered(own.states)),
             is_right(&r, &own.text, g, p, is_damaged),
         ),
-        Err(f) => (Err(f), true),
+        Err(f) => (Err(*f), is_nothing(&answer)),
     };
     let known = is_damaged || is_known(&got, p);
     tally.count_call(&expected, made && known && expected == got);

@@ -11,7 +11,7 @@ use Rattle.megzhoi_c.proofs.megzhoi_read.Goals as goal
 
 pub returns : goal.returns
 returns c =
-    let done = c.read-answer.ensures in
+    let done = c.read-answer.ensures.outcome in
     let before = c.args.out.now in
     let numbers : of_numbers c.map.result ≡ of_verdict (answer_of c.read-answer.result) (states_in c.read-answer.result) = search rules in record {
       four_numbers = c.hand_out.ensures ∙ c.numbers_of-f.ensures ∙ numbers

@@ -15,25 +15,25 @@ returns-in_err-m c =
 pub returns-in_err-reading : goal.returns-in_err-reading
 returns-in_err-reading c =
     let pre = rw c.in_ok-m.was at c.requires in
-    let loaded = c.in_err-reading.ensures ∙ measured_load _ _ _ pre.0 _ _ in
+    let loaded = c.in_err-reading.ensures.loading ∙ measured_load _ _ _ pre.0 _ _ in
     safe_refused _ _ _ _ _ _ _ _ loaded c.from_residual-in_err-reading.result c.from_residual-in_err-reading.ensures.1
 
 pub bytes_for-need-requires : goal.bytes_for-need-requires
 bytes_for-need-requires c =
     let pre = rw c.in_ok-m.was at c.requires in
-    let loaded = c.in_ok-reading.ensures ∙ measured_load _ _ _ pre.0 _ _ in
+    let loaded = c.in_ok-reading.ensures.loading ∙ measured_load _ _ _ pre.0 _ _ in
     omega (arith, safe_few _ _ _ _ _ _ c.args.keep.now _ loaded)
 
 pub returns-then-keep-need : goal.returns-then-keep-need
 returns-then-keep-need c =
     let pre = rw c.in_ok-m.was at c.requires in
-    let loaded = c.in_ok-reading.ensures ∙ measured_load _ _ _ pre.0 _ _ in
+    let loaded = c.in_ok-reading.ensures.loading ∙ measured_load _ _ _ pre.0 _ _ in
     safe_short _ _ _ _ _ _ _ _ loaded _ c.bytes_for-need.ensures c.if-keep-need.true
 
 pub found-requires : goal.found-requires
 found-requires c =
     let pre = rw c.in_ok-m.was at c.requires in
-    let loaded = c.in_ok-reading.ensures ∙ measured_load _ _ _ pre.0 _ _ in
+    let loaded = c.in_ok-reading.ensures.loading ∙ measured_load _ _ _ pre.0 _ _ in
     let accepted = answer_is _ c.args.text.now _ _ (Ok c.in_ok-reading.reading) _ _ loaded _ refl in
     safe_ready _ _ _ _ _ _ _ _ loaded _ c.bytes_for-need.ensures c.if-keep-need.false _ _
     (measured_counted _ _ _ pre.0 accepted) pre.1
@@ -41,5 +41,5 @@ found-requires c =
 pub returns : goal.returns
 returns c =
     let pre = rw c.in_ok-m.was at c.requires in
-    let loaded = c.in_ok-reading.ensures ∙ measured_load _ _ _ pre.0 _ _ in
+    let loaded = c.in_ok-reading.ensures.loading ∙ measured_load _ _ _ pre.0 _ _ in
     safe_found _ _ _ _ _ _ _ _ loaded _ c.bytes_for-need.ensures c.if-keep-need.false _ c.found.ensures

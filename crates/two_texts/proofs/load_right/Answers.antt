@@ -20,7 +20,7 @@ returns-in_err-map_err c =
     c.in_err-map_err.field-0.0 c.in_err-map_err.was c.from_residual-in_err-map_err.result
     c.from_residual-in_err-map_err.ensures.1 in
     right_refused _ _ _ pre.0 _ _ _ _ _
-    (loaded_refused _ _ c.in_ok-m.m (rw read at pre.1) _ _ c.judge.result _ _ c.judge.ensures Right f is) told
+    (loaded_refused _ _ c.in_ok-m.m (rw read at pre.1) _ _ c.judge.result _ _ c.judge.ensures.loading Right f is) told
 
 pub paired-requires : goal.paired-requires
 paired-requires c =
@@ -28,8 +28,8 @@ paired-requires c =
     let read = kept Right c.args.theirs c.map_err.result c.map_err.ensures.cases c.in_ok-m.m c.in_ok-m.was in
     let judged = kept Right c.judge.result c.map_err-2.result c.map_err-2.ensures.cases c.in_ok-map_err.field-0 c.in_ok-map_err.was in (
       pre.0,
-      loaded_reading _ _ c.in_ok-m.m (rw read at pre.1) _ _ c.judge.result _ _ c.judge.ensures (ap answer_of judged),
-      loaded_wide _ _ c.in_ok-m.m (rw read at pre.1) _ _ c.judge.result _ _ c.judge.ensures (ap answer_of judged)
+      loaded_reading _ _ c.in_ok-m.m (rw read at pre.1) _ _ c.judge.result _ _ c.judge.ensures.loading (ap answer_of judged),
+      loaded_wide _ _ c.in_ok-m.m (rw read at pre.1) _ _ c.judge.result _ _ c.judge.ensures.loading (ap answer_of judged)
           (rw read at pre.2),
     )
 
@@ -38,5 +38,5 @@ returns c =
     let pre = c.requires in
     let read = kept Right c.args.theirs c.map_err.result c.map_err.ensures.cases c.in_ok-m.m c.in_ok-m.was in
     let judged = kept Right c.judge.result c.map_err-2.result c.map_err-2.ensures.cases c.in_ok-map_err.field-0 c.in_ok-map_err.was in
-    right_paired _ _ _ pre.0 _ c.in_ok-m.m (rw read at pre.1) _ _ c.judge.result _ _ c.judge.ensures _ _ (ap answer_of judged)
+    right_paired _ _ _ pre.0 _ c.in_ok-m.m (rw read at pre.1) _ _ c.judge.result _ _ c.judge.ensures.loading _ _ (ap answer_of judged)
     (rw read at pre.2) c.paired.ensures

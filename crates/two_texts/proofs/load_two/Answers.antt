@@ -47,7 +47,7 @@ returns-in_err-map_err c =
     c.from_residual-in_err-map_err.ensures.1 in
     left_refused _ c.args.left.now c.args.right.now (sym c.is_tick_length.ensures ∙ c.if-not-is_tick_length.false)
     left_fits right_fits _ _ _ _ _ _
-    (loaded_refused _ _ c.in_ok-ours.ours (rw read_left at c.requires.0.left_text) _ _ c.judge.result _ _ c.judge.ensures
+    (loaded_refused _ _ c.in_ok-ours.ours (rw read_left at c.requires.0.left_text) _ _ c.judge.result _ _ c.judge.ensures.loading
     Left f is) told
 
 pub load_right-requires : goal.load_right-requires
@@ -56,7 +56,7 @@ load_right-requires c =
     let read_left = read (goal.at.load_right-requires c).After-judge in
     let judged = kept Left c.judge.result c.map_err-2.result c.map_err-2.ensures.cases c.in_ok-map_err.field-0
     c.in_ok-map_err.was in (
-      loaded_reading _ _ c.in_ok-ours.ours (rw read_left at pre.0.left_text) _ _ c.judge.result _ _ c.judge.ensures
+      loaded_reading _ _ c.in_ok-ours.ours (rw read_left at pre.0.left_text) _ _ c.judge.result _ _ c.judge.ensures.loading
           (ap answer_of judged),
       pre.0.right_text,
       pre.1.right,
@@ -72,4 +72,4 @@ returns c =
     c.in_ok-map_err.was in
     both_read _ c.args.left.now c.args.right.now (sym c.is_tick_length.ensures ∙ c.if-not-is_tick_length.false)
     left_read right_read c.in_ok-ours.ours (rw read_left at pre.0.left_text) _ _
-    c.judge.result _ _ c.judge.ensures _ _ _ (ap answer_of judged) (rw read_left at pre.1.left) c.load_right.ensures
+    c.judge.result _ _ c.judge.ensures.loading _ _ _ (ap answer_of judged) (rw read_left at pre.1.left) c.load_right.ensures
