@@ -11,7 +11,7 @@ use Rattle.reader_record.specs.declared.Text.{Text}
 use Rattle.reader_record.specs.Formed.{WellFormed}
 use Rattle.clocks.specs.States.{state_count}
 use Rattle.clocks_states.specs.Parts.{Countable}
-use Rattle.pairing.specs.Channels.{right_step, unmatched, pairing}
+use Rattle.pairing.specs.Channels.{right_step}
 use Rattle.written.specs.Underscores.{written_text}
 use Rattle.written_names.specs.Spelled.{channel_spellings}
 use Rattle.joined.specs.Joined.{joined_text, counts_fit}
@@ -27,20 +27,6 @@ use Rattle.joining.specs.Outcome.{Outcome, refused, record_outcome}
 use Rattle.joining.specs.Ready.{Ready, bytes_outcome}
 use Rattle.joining.proofs.Laws.{over_counts, over_states, by_text}
 use Rattle.joining.proofs.Built.{alike_countable, spellings_same, alike_within}
-
--- texts with equal channels pair up, by the table of the right's numbers of the left's steps
-pub paired_ok : (s : List ℕ) (l : Text) (u : List ℕ) (r : Text) → unmatched s l u r ≡ Ok tt
-    → pairing s l u r ≡ Ok (tab_from (right_step s l u r) 0 step_limit)
-unfolding pairing
-paired_ok s l u r e = rw e
-
-pub paired_table : (s : List ℕ) (l : Text) (u : List ℕ) (r : Text) → unmatched s l u r ≡ Ok tt
-    → (p : Result (List ℕ) Refusal) (map : List ℕ) → p ≡ pairing s l u r → p ≡ Ok map
-    → map ≡ tab_from (right_step s l u r) 0 step_limit
-paired_table s l u r e p map q h = same map _ (sym h ∙ q ∙ paired_ok s l u r e)
-  where
-    same : (x y : List ℕ) → ◌≡◌ {A = Result (List ℕ) Refusal} (Ok x) (Ok y) → x ≡ y
-    same x y i = cc
 
 -- what `ok_or` makes of the joined record: a refusal where there is none
 none_of : (j : Option Text) (q : Result Text Refusal) (e : Refusal) → q ≡ ok_or j LimitExceeded → q ≡ Err e
@@ -83,7 +69,7 @@ pub joins : (l r : Text) (map : List ℕ) (j : Option Text) (q : Result Text Ref
 joins l r map j q t b a e = joins_some l r map j t b (some_of j q t a e)
 
 -- for the records l and r of the texts `left` and `right`, by a table of the right's numbers of the left's steps
-module _ (left right : List ℕ) (l r : Text) (ready : Ready left l right r) {map : List ℕ}
+module _ (left right : List ℕ) (l r : Text) (ready : Ready left l r) {map : List ℕ}
     (table : map ≡ tab_from (right_step left l right r) 0 step_limit) where
   -- the joined record of the two, and its text
   abbrev J : Text

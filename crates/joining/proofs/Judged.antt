@@ -79,17 +79,13 @@ module _ (period : ℕ) where
       right_there = measured_there period right b.right measures.right_text (judged_none period left right found).right_read
 
       module _ (l r : Measured) (p : b.left ≡ Ok l) (q : b.right ≡ Ok r) where
-        pub judged_ready : Ready left l.text right r.text
+        pub judged_ready : Ready left l.text r.text
         judged_ready =
             let j = judged_none period left right found in
             record {
               left_formed = parsed_formed left l (rw p at measures.left_text) j.left_read;
               right_formed = parsed_formed right r (rw q at measures.right_text) j.right_read;
               names = parsed_names left l (rw p at measures.left_text) j.left_read;
-              equal = rw (
-                parsed_text left l (rw p at measures.left_text) j.left_read,
-                parsed_text right r (rw q at measures.right_text) j.right_read,
-              ) j.equal;
             }
 
         pub judged_joined : {o : Outcome} (out : List ℕ)

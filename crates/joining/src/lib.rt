@@ -74,14 +74,14 @@ fn join_accepted(
     r: Text,
     out: &mut [u8],
 ) -> Result<usize, Refusal>
-    requires { Ready left.now l right.now r }
+    requires { Ready left.now l r }
     ensures { ◌≡◌ {A = Outcome} (record { answer = result; out = out.new })
         (record_outcome (joined_text (right_step left.now l right.now r) l r)
         (written_text (channel_spellings left.now l)
         (joined_text (right_step left.now l right.now r) l r)) out.old) }
 {
-    let map = pairing::pair_channels(left, l, right, r).unwrap();
-    let t = joining_record::join_records(l, r, map).ok_or(Refusal::LimitExceeded)?;
+    let pairing = pairing::pair_channels(left, l, right, r);
+    let t = joining_record::join_records(l, r, pairing.map).ok_or(Refusal::LimitExceeded)?;
     if STATE_LIMIT < states_of(t) {
         return Err(Refusal::LimitExceeded);
     }

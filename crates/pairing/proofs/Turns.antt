@@ -20,8 +20,8 @@ use Rattle.pairing.specs.Table.{renumbered, row_entry, StepsThere, Renumbering, 
 use Rattle.limits.specs.Limits.{step_limit, state_limit}
 use lib.Arith.{digits_div, digits_mod}
 use Rattle.pairing.specs.declared.Channels.{Channels}
-use Rattle.std.specs.Prelude.{Result, Ok, Err, ⊤}
-use Rattle.std.specs.Result.{result_and}
+use Rattle.pairing.specs.declared.Pairing.{Pairing}
+use Rattle.std.specs.Prelude.{Result, ⊤}
 use Rattle.refusals.specs.declared.Refusal.{Refusal}
 use Rattle.pairing.specs.Only.{only, channels_of}
 
@@ -77,30 +77,13 @@ unfolding pairing unmatched first_unmatched matched right_step partner input
 pairing_only s l u r = refl
 
 -- what is returned where the channels of two texts are compared
-module _ (s : List ℕ) (l : Text) (u : List ℕ) (r : Text) (a b : Channels) (e : a ≡ channels_of l) (f : b ≡ channels_of r)
-    (c d : ℕ) (g : c ≡ first_unmatched s (only a) u (only b)) (h : d ≡ first_unmatched u (only b) s (only a)) where
-  pairing_of : pairing s (only a) u (only b) ≡ pairing s l u r
-  pairing_of = rw (e, f) (pairing_only s l u r)
-
-  unmatched_of : verdict c d ≡ unmatched s (only a) u (only b)
-  unfolding unmatched
-  unmatched_of = rw (g, h)
-
-  pub pairing_refused : (v : Result ⊤ Refusal) (why : Refusal) → v ≡ verdict c d → v ≡ Err why → Err why ≡ pairing s l u r
-  unfolding pairing
-  pairing_refused v why i q =
-      let j : unmatched s (only a) u (only b) ≡ Err why = sym unmatched_of ∙ sym i ∙ q in
-      sym (ap (λ (w : Result ⊤ Refusal). result_and w (Ok (tab_from (right_step s (only a) u (only b)) 0 step_limit))) j)
-      ∙ pairing_of
-
-  pub pairing_done : (v : Result ⊤ Refusal) (map : List ℕ) → v ≡ verdict c d → v ≡ Ok tt
-      → map ≡ tab_from (right_step s (only a) u (only b)) 0 step_limit → Ok map ≡ pairing s l u r
-  unfolding pairing
-  pairing_done v map i q k =
-      let j : unmatched s (only a) u (only b) ≡ Ok tt = sym unmatched_of ∙ sym i ∙ q in
-      ap (λ (m : List ℕ). Ok m) k
-      ∙ sym (ap (λ (w : Result ⊤ Refusal). result_and w (Ok (tab_from (right_step s (only a) u (only b)) 0 step_limit))) j)
-      ∙ pairing_of
+pub pairing_done : (s : List ℕ) (l : Text) (u : List ℕ) (r : Text) (a b : Channels) → a ≡ channels_of l → b
+    ≡ channels_of r → (c d : ℕ) → c ≡ first_unmatched s (only a) u (only b) → d ≡ first_unmatched u (only b) s (only a)
+    → (v : Result ⊤ Refusal) → v ≡ verdict c d → (map : List ℕ) → map
+    ≡ tab_from (right_step s (only a) u (only b)) 0 step_limit → ◌≡◌ {A = Pairing} (record { answer = v; map = map }) (pairing s l u r)
+unfolding pairing unmatched
+pairing_done s l u r a b e f c d g h v i map j =
+    rw (j, i, g, h, e, f) (pairing_only s l u r)
 
 -- an array that is filled whole
 pub written_whole : (f : ℕ → ℕ) (n : ℕ) → n ≡ step_limit → written f n (replicate step_limit 0)

@@ -1,6 +1,5 @@
 -- The channels of two texts: which of them belong together, and code 12 (SPECIFICATION 9.1, 9.2).
 use Rattle.std.specs.Prelude.{◌≡◌, Bool, false, cond, not, ◌&&◌, List, ℕ, zero, suc, ◌+◌, ◌-◌, ◌≤◌, ◌<◌, eqb, leb, ltb, take, drop, Result, Ok, Err, ⊤}
-use Rattle.std.specs.Result.{result_and}
 use Rattle.refusals.specs.declared.File.TheVariants.{Left, Right}
 use Rattle.refusals.specs.declared.Refusal.{Refusal}
 use Rattle.refusals.specs.declared.Refusal.TheVariants.{UnmatchedChannel}
@@ -10,6 +9,7 @@ use Rattle.reader_record.specs.declared.Text.{Text}
 use Rattle.reader_formed.specs.Promise.{channel_name, NamesWithin, NamesDiffer}
 use Rattle.bitmaps.specs.Bits.{tab_from}
 use Rattle.clocks.specs.States.{input}
+use Rattle.pairing.specs.declared.Pairing.{Pairing}
 use Rattle.limits.specs.Limits.{channel_limit, step_limit}
 
 -- what reading promises of the names of a text
@@ -88,6 +88,7 @@ unmatched s l u r = verdict (first_unmatched s l u r) (first_unmatched u r s l)
 unfoldable pub right_step : List ℕ → Text → List ℕ → Text → ℕ → ℕ
 right_step s l u r c = cond (ltb 0 c && leb c l.channel_count) (partner s (name_of l c) u r) 0
 
--- the right's numbers of the left's steps where the channels are equal, else code 12 (SPECIFICATION 9.1, 9.2)
-unfoldable pub pairing : List ℕ → Text → List ℕ → Text → Result (List ℕ) Refusal
-pairing s l u r = result_and (unmatched s l u r) (Ok (tab_from (right_step s l u r) 0 step_limit))
+-- code 12 or that the channels are equal, and beside either the right's numbers of the left's steps (SPECIFICATION 9.1,
+-- 9.2)
+unfoldable pub pairing : List ℕ → Text → List ℕ → Text → Pairing
+pairing s l u r = record { answer = unmatched s l u r; map = tab_from (right_step s l u r) 0 step_limit }

@@ -13,6 +13,15 @@ use limits::{CHANNEL_LIMIT, STEP_LIMIT};
 use reader_record::{Channel, Name, Text};
 use refusals::{File, Refusal};
 
+// Whether two texts have equal channels, or code 12 (SPECIFICATION 9.1), and the right's number of each step of the left
+// (9.2): the tick is the tick, a channel the one of the same name, and 0 stands where there is none. The map stands beside
+// a refusal too, with 0 where the right has no such channel.
+#[derive(Clone, Copy)]
+pub struct Pairing {
+    pub answer: Result<(), Refusal>,
+    pub map: [usize; STEP_LIMIT],
+}
+
 // The channels of a text: the first `count` of the list. What is compared are these alone, since a text is long.
 #[derive(Clone, Copy)]
 struct Channels {
@@ -118,15 +127,9 @@ fn steps_of(s: &[u8], l: Channels, u: &[u8], r: Channels) -> [usize; STEP_LIMIT]
     map
 }
 
-// Pairs the channels of the left text with those of the right, or refuses them by code 12 (SPECIFICATION 9.1). The map
-// has the right's number of each step of the left: the tick is the tick, a channel the one of the same name, and 0
-// stands where there is none.
-pub fn pair_channels(
-    left: &[u8],
-    l: Text,
-    right: &[u8],
-    r: Text,
-) -> Result<[usize; STEP_LIMIT], Refusal>
+// Pairs the channels of the left text with those of the right (SPECIFICATION 9.1, 9.2): code 12 for the lowest channel of
+// the left that has no match, else of the right, and the map of the steps either way.
+pub fn pair_channels(left: &[u8], l: Text, right: &[u8], r: Text) -> Pairing
     requires { WellFormed l × WellFormed r }
     ensures { result ≡ pairing left.now l right.now r }
 {
@@ -134,8 +137,9 @@ pub fn pair_channels(
     let theirs = channels_of(r);
     let c = unmatched_of(left, ours, right, theirs);
     let d = unmatched_of(right, theirs, left, ours);
-    verdict_of(c, d)?;
-    Ok(steps_of(left, ours, right, theirs))
+    let answer = verdict_of(c, d);
+    let map = steps_of(left, ours, right, theirs);
+    Pairing { answer, map }
 }
 
 // The row that starts at `from`, of so many steps, out of the table.

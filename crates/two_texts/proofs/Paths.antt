@@ -32,7 +32,7 @@ use Rattle.clocks_read.specs.Loading.{Loading, load_outcome, loading}
 use Rattle.clocks_read.specs.Laws.{read_accepted, load_moves, load_holds, measured_load, measured_refused, measured_text, measured_counted}
 use Rattle.clocks_read.specs.Loaded.{answer_is}
 use Rattle.clocks_read.specs.Measured.{Measures, measured_loading}
-use Rattle.std.specs.Result.{result_and}
+use Rattle.pairing.specs.declared.Pairing.{Pairing}
 use Rattle.pairing.specs.Channels.{unmatched, pairing}
 use Rattle.pairing.specs.Table.{renumbered, Renumbering}
 use Rattle.pairing.specs.Counts.{equally_many}
@@ -139,44 +139,34 @@ module _ (period : ℕ) where
 
   -- the paths after the channels are paired
   module _ (left : List ℕ) (l : Measured) (right : List ℕ) (r : Measured) (L : AcceptedMeasure period left l)
-      (R : AcceptedMeasure period right r) where
-    pairing_is : pairing left l.text right r.text ≡ pairing left (text_of period left) right (text_of period right)
-    pairing_is = rw (text_is left l L, text_is right r R)
+      (R : AcceptedMeasure period right r) (p : Pairing)
+      (e : p ≡ pairing left l.text right r.text) where
+    pairing_is : p ≡ pairing left (text_of period left) right (text_of period right)
+    pairing_is = rw (text_is left l L, text_is right r R) at e
 
-    -- code 12 is what pairing refuses, and else the channels are equal and the map is that of the steps
-    refused_by : (m : Result ⊤ Refusal) (map : List ℕ) (f : Refusal) → ◌≡◌ {A = Result (List ℕ) Refusal} (Err f) (result_and m (Ok map))
-        → m ≡ Err f
-    refused_by (Ok u) map f e = let z : ◌≡◌ {A = ℕ} 0 1 = cc in absurd (omega arith)
-    refused_by (Err g) map f e = let q : g ≡ f = cc in rw q
+    match_is : p.answer ≡ unmatched left (text_of period left) right (text_of period right)
+    unfolding pairing
+    match_is = ap (λ (x : Pairing). x.answer) pairing_is
 
-    equal_by : (m : Result ⊤ Refusal) (map d : List ℕ) → ◌≡◌ {A = Result (List ℕ) Refusal} (Ok d) (result_and m (Ok map))
-        → (m ≡ Ok tt) × (d ≡ map)
-    equal_by (Ok u) map d e = let q : d ≡ map = cc in (refl, q)
-    equal_by (Err g) map d e = let z : ◌≡◌ {A = ℕ} 0 1 = cc in absurd (omega arith)
+    map_is : p.map ≡ tab_from (step_of period left right) 0 step_limit
+    unfolding pairing
+    map_is = ap (λ (x : Pairing). x.map) pairing_is
 
-    pub paired_refused : (d : List ℕ) (f : Refusal) (t : Result TwoTexts Refusal)
-        → Err f ≡ pairing left l.text right r.text → t ≡ Err f → Paired period left right d d d t
-    unfolding refused_pairing pairing
+    pub paired_refused : (d : List ℕ) (f : Refusal) (t : Result TwoTexts Refusal) → p.answer ≡ Err f → t ≡ Err f
+        → Paired period left right d d d t
+    unfolding refused_pairing
     paired_refused d f t a q = record {
-      judged = rw (refused_by _ _ f (a ∙ pairing_is)) (refusal_of f t q);
+      judged = rw (sym match_is ∙ a) (refusal_of f t q);
       numbers = refused_never f t q;
       moves = refused_never f t q;
     }
 
-    module _ (map : List ℕ) (a : Ok map ≡ pairing left l.text right r.text) where
-      paired_is : (unmatched left (text_of period left) right (text_of period right) ≡ Ok tt)
-          × (map ≡ tab_from (step_of period left right) 0 step_limit)
-      unfolding pairing
-      paired_is = equal_by _ _ map (a ∙ pairing_is)
-
-      map_is : map ≡ tab_from (step_of period left right) 0 step_limit
-      map_is = paired_is.1
-
+    module _ (a : p.answer ≡ Ok tt) where
       both_judged : Judged period left right
       both_judged = record {
         left_read = L.accepted;
         right_read = R.accepted;
-        equal = paired_is.0;
+        equal = sym match_is ∙ a;
       }
 
       many : (text_of period left).channel_count ≡ (text_of period right).channel_count
@@ -185,7 +175,7 @@ module _ (period : ℕ) where
           (named period right both_judged.right_read) both_judged.equal
 
       pub paired_renumbers : (d : List ℕ) → r.states * step_limit ≤ length d
-          → Renumbering (length d) map r.states (l.text.channel_count + 1)
+          → Renumbering (length d) p.map r.states (l.text.channel_count + 1)
       paired_renumbers d k =
           let wl = reading_accepted left l L in
           rw (map_is, (reading_counted right r R).count, text_is left l L) (record {
@@ -199,7 +189,7 @@ module _ (period : ℕ) where
 
       pub paired_accepted : (d after : List ℕ) (t : Result TwoTexts Refusal)
           → after ≡ written
-          (renumbered d map (l.text.channel_count + 1) (l.text.channel_count + 1))
+          (renumbered d p.map (l.text.channel_count + 1) (l.text.channel_count + 1))
           (r.states * (l.text.channel_count + 1)) d
           → t ≡ Ok (accepted_two l.text r.text)
           → Paired period left right d d after t

@@ -81,9 +81,10 @@ fn paired(
 {
     let a = ours.text;
     let b = theirs.text;
-    let map = pairing::pair_channels(left, a, right, b)?;
+    let pairing = pairing::pair_channels(left, a, right, b);
+    pairing.answer?;
     let width = a.channel_count + 1;
-    pairing::renumber(moves, map, theirs.states, width);
+    pairing::renumber(moves, pairing.map, theirs.states, width);
     Ok(accepted(a, ours.ranges, b, theirs.ranges))
 }
 
