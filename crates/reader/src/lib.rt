@@ -5,7 +5,7 @@
 ghost use Rattle.std.specs.Prelude.{◌≡◌, ◌≤◌, length};
 ghost use Rattle.reader_lists.specs.Heads.{no_edges, before_edges, with_rest, ReadsHead, ReadsEdges};
 ghost use Rattle.reader.specs.Reading.{start, channel_part, process_read, clock_part, location_part, init_read};
-ghost use Rattle.reader.specs.Reading.{edge_part, end_read, read_whole, text_of, read_text};
+ghost use Rattle.reader.specs.Reading.{edge_part, end_read, read_whole, text_of, record_of, read_text};
 ghost use Rattle.reader.specs.Parts.{head_of, read_head};
 ghost use Rattle.reader.specs.Faults.{refusal_of};
 ghost use Rattle.limits.specs.Limits.{TickLength, largest_text};
@@ -36,14 +36,14 @@ fn channel_part(period: usize, s: &[u8], r: HeadRead) -> Result<HeadRead, Fault>
     requires { TickLength period × (length s.now ≤ largest_text) }
     ensures { ReadsHead (channel_part period s.now) r result }
 {
-    if !reader_parts::ahead(s, r.end, reader_tokens::BROADCAST) {
+    if !reader_parts::ahead(s, Ok(r.end), reader_tokens::BROADCAST) {
         return Ok(r);
     }
-    let a = reader_parts::take(s, r.end, reader_tokens::BROADCAST)?;
-    let b = reader_parts::take(s, a, reader_tokens::CHAN)?;
+    let a = reader_parts::take(s, Ok(r.end), reader_tokens::BROADCAST)?;
+    let b = reader_parts::take(s, Ok(a), reader_tokens::CHAN)?;
     let mut from = r;
     from.end = b;
-    reader_lists::named_items(period, s, from, Named::Channel)
+    reader_lists::named_items(period, s, Ok(from), Named::Channel)
 }
 
 // The process and its name (SPECIFICATION 3.1).
@@ -52,11 +52,11 @@ fn process_part(s: &[u8], p: usize, names: &[Name; NAME_SLOTS]) -> Result<Declar
     requires { length s.now ≤ largest_text }
     ensures { result ≡ process_read s.now p names.now }
 {
-    let a = reader_parts::take(s, p, reader_tokens::PROCESS)?;
-    let d = reader_parts::declare(s, a, names, PROCESS_SLOT, 0, PROCESS_LIMIT)?;
-    let b = reader_parts::take(s, d.end, reader_tokens::LEFT)?;
-    let c = reader_parts::take(s, b, reader_tokens::RIGHT)?;
-    let end = reader_parts::take(s, c, reader_tokens::OPEN)?;
+    let a = reader_parts::take(s, Ok(p), reader_tokens::PROCESS)?;
+    let d = reader_parts::declare(s, Ok(a), names, PROCESS_SLOT, 0, PROCESS_LIMIT)?;
+    let b = reader_parts::take(s, Ok(d.end), reader_tokens::LEFT)?;
+    let c = reader_parts::take(s, Ok(b), reader_tokens::RIGHT)?;
+    let end = reader_parts::take(s, Ok(c), reader_tokens::OPEN)?;
     let names = d.names;
     Ok(Declaration {
         names,
@@ -70,13 +70,13 @@ fn clock_part(period: usize, s: &[u8], r: HeadRead) -> Result<HeadRead, Fault>
     requires { TickLength period × (length s.now ≤ largest_text) }
     ensures { ReadsHead (clock_part period s.now) r result }
 {
-    if !reader_parts::ahead(s, r.end, reader_tokens::CLOCK) {
+    if !reader_parts::ahead(s, Ok(r.end), reader_tokens::CLOCK) {
         return Ok(r);
     }
-    let a = reader_parts::take(s, r.end, reader_tokens::CLOCK)?;
+    let a = reader_parts::take(s, Ok(r.end), reader_tokens::CLOCK)?;
     let mut from = r;
     from.end = a;
-    reader_lists::named_items(period, s, from, Named::Clock)
+    reader_lists::named_items(period, s, Ok(from), Named::Clock)
 }
 
 // The locations (SPECIFICATION 3.1).
@@ -84,10 +84,10 @@ fn location_part(period: usize, s: &[u8], r: HeadRead) -> Result<HeadRead, Fault
     requires { TickLength period × (length s.now ≤ largest_text) }
     ensures { ReadsHead (location_part period s.now) r result }
 {
-    let a = reader_parts::take(s, r.end, reader_tokens::STATE)?;
+    let a = reader_parts::take(s, Ok(r.end), reader_tokens::STATE)?;
     let mut from = r;
     from.end = a;
-    reader_lists::named_items(period, s, from, Named::Location)
+    reader_lists::named_items(period, s, Ok(from), Named::Location)
 }
 
 // The parts before `init`.
@@ -113,9 +113,9 @@ fn init_part(s: &[u8], p: usize, names: &[Name; NAME_SLOTS]) -> Result<Use, Faul
     requires { length s.now ≤ largest_text }
     ensures { result ≡ init_read s.now p names.now }
 {
-    let a = reader_parts::take(s, p, reader_tokens::INIT)?;
-    let u = reader_parts::use_name(s, a, names, FIRST_LOCATION, LOCATION_LIMIT, false)?;
-    let end = reader_parts::take(s, u.end, reader_tokens::SEMICOLON)?;
+    let a = reader_parts::take(s, Ok(p), reader_tokens::INIT)?;
+    let u = reader_parts::use_name(s, Ok(a), names, FIRST_LOCATION, LOCATION_LIMIT, false)?;
+    let end = reader_parts::take(s, Ok(u.end), reader_tokens::SEMICOLON)?;
     Ok(Use {
         number: u.number,
         place: u.place,
@@ -134,11 +134,11 @@ fn edge_part(
     requires { TickLength period × (length s.now ≤ largest_text) }
     ensures { ReadsEdges (edge_part period s.now) names.now (before_edges p channels) result }
 {
-    if !reader_parts::ahead(s, p, reader_tokens::TRANS) {
-        return Ok(reader_lists::no_edges(p, channels));
+    if !reader_parts::ahead(s, Ok(p), reader_tokens::TRANS) {
+        return reader_lists::no_edges(Ok(p), channels);
     }
-    let a = reader_parts::take(s, p, reader_tokens::TRANS)?;
-    reader_lists::edges(period, s, a, names, channels)
+    let a = reader_parts::take(s, Ok(p), reader_tokens::TRANS)?;
+    reader_lists::edges(period, s, Ok(a), names, channels)
 }
 
 // The name of the process again, and the end of the text (SPECIFICATION 3.1, 3.3).
@@ -147,11 +147,11 @@ fn end_part(s: &[u8], p: usize, names: &[Name; NAME_SLOTS]) -> Result<usize, Fau
     requires { length s.now ≤ largest_text }
     ensures { result ≡ end_read s.now p names.now }
 {
-    let a = reader_parts::take(s, p, reader_tokens::CLOSE)?;
-    let b = reader_parts::take(s, a, reader_tokens::SYSTEM)?;
-    let u = reader_parts::use_name(s, b, names, PROCESS_SLOT, PROCESS_LIMIT, false)?;
-    let c = reader_parts::take(s, u.end, reader_tokens::SEMICOLON)?;
-    reader_parts::take(s, c, reader_tokens::END)
+    let a = reader_parts::take(s, Ok(p), reader_tokens::CLOSE)?;
+    let b = reader_parts::take(s, Ok(a), reader_tokens::SYSTEM)?;
+    let u = reader_parts::use_name(s, Ok(b), names, PROCESS_SLOT, PROCESS_LIMIT, false)?;
+    let c = reader_parts::take(s, Ok(u.end), reader_tokens::SEMICOLON)?;
+    reader_parts::take(s, Ok(c), reader_tokens::END)
 }
 
 // The refusal for each reason to refuse a text (SPECIFICATION 13.1), which is taken for the left or only one.
@@ -214,5 +214,15 @@ pub fn parse(period: usize, text: &[u8]) -> Result<Text, Refusal>
     match read_whole(period, text) {
         Ok(t) => Ok(t),
         Err(f) => Err(refusal_of(f)),
+    }
+}
+
+// The record that parsing gives; beside a refusal it is the empty one (SPECIFICATION 12.1).
+pub fn record_of(parsed: &Result<Text, Refusal>) -> Text
+    ensures { result ≡ record_of parsed.now }
+{
+    match parsed {
+        Ok(t) => *t,
+        Err(_) => reader_lists::no_text(),
     }
 }

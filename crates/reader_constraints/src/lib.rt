@@ -8,6 +8,7 @@ ghost use Rattle.reader_constraints.specs.Constraints.{sign_of, sign_next, compa
 ghost use Rattle.reader_constraints.specs.Constraints.{blank_constraint, with_comparison, constraint, optional};
 ghost use Rattle.reader_constraints.specs.Constraints.{guard, invariant};
 ghost use Rattle.reader_tokens.specs.Scan.{over_numeral};
+ghost use Rattle.reader_parts.specs.Stages.{onward};
 ghost use Rattle.limits.specs.Limits.{TickLength, largest_text, comparison_limit};
 
 use limits::{CLOCK_LIMIT, COMPARISON_LIMIT, LARGEST_CONSTANT};
@@ -51,13 +52,19 @@ fn constant_of(period: usize, s: &[u8], t: Token, least: usize) -> Result<Amount
     Ok(Amount { value, end: t.end })
 }
 
-// The next token as a constant.
+// The next token as a constant of at least `least` ticks: else code 2, and 6 where it is too large (SPECIFICATION 4.5).
+// A fault of the stage before stays.
 #[tactic(auto, unfolding(crate::specs::Constraints::constant))]
-pub fn constant(period: usize, s: &[u8], p: usize, least: usize) -> Result<Amount, Fault>
+pub fn constant(
+    period: usize,
+    s: &[u8],
+    at: Result<usize, Fault>,
+    least: usize,
+) -> Result<Amount, Fault>
     requires { TickLength period }
-    ensures { result ≡ constant period least s.now p }
+    ensures { result ≡ onward (constant period least s.now) at }
 {
-    constant_of(period, s, reader_scanner::scan(s, p), least)
+    constant_of(period, s, reader_scanner::scan(s, at?), least)
 }
 
 // The sign that a token of this kind is (SPECIFICATION 3.1, in an invariant 3.2).
@@ -129,10 +136,10 @@ fn comparison_next(
     requires { TickLength period × (length s.now ≤ largest_text) }
     ensures { result ≡ comparison_next period s.now p names.now invariant over }
 {
-    let clock = reader_parts::use_name(s, p, names, FIRST_CLOCK, CLOCK_LIMIT, over)?;
+    let clock = reader_parts::use_name(s, Ok(p), names, FIRST_CLOCK, CLOCK_LIMIT, over)?;
     let read = sign_next(s, clock.end, invariant)?;
     let least = least_constant(invariant, read.sign);
-    let bound = constant(period, s, read.end, least)?;
+    let bound = constant(period, s, Ok(read.end), least)?;
     let comparison = Comparison {
         clock: clock.number as u8,
         sign: read.sign,
@@ -194,11 +201,11 @@ fn constraint(
     for _ in 0..COMPARISON_LIMIT {
         let x = comparison_next(period, s, q, names, invariant, false)?;
         c = with_comparison(c, x.comparison);
-        if !reader_parts::ahead(s, x.end, reader_tokens::BOTH) {
-            let end = reader_parts::take(s, x.end, closing)?;
+        if !reader_parts::ahead(s, Ok(x.end), reader_tokens::BOTH) {
+            let end = reader_parts::take(s, Ok(x.end), closing)?;
             return Ok(ConstraintRead { constraint: c, end });
         }
-        q = reader_parts::take(s, x.end, reader_tokens::BOTH)?;
+        q = reader_parts::take(s, Ok(x.end), reader_tokens::BOTH)?;
     }
     let x = comparison_next(period, s, q, names, invariant, true)?;
     Ok(ConstraintRead {
@@ -221,30 +228,30 @@ fn optional(
     requires { TickLength period × (length s.now ≤ largest_text) }
     ensures { result ≡ optional period opening invariant closing s.now p names.now }
 {
-    if !reader_parts::ahead(s, p, opening) {
+    if !reader_parts::ahead(s, Ok(p), opening) {
         return Ok(ConstraintRead {
             constraint: blank_constraint(),
             end: p,
         });
     }
-    let q = reader_parts::take(s, p, opening)?;
+    let q = reader_parts::take(s, Ok(p), opening)?;
     constraint(period, s, q, names, invariant, closing)
 }
 
-// The guard of an edge, where there is one (SPECIFICATION 3.1).
+// The guard of an edge, where there is one (SPECIFICATION 3.1). A fault of the stage before stays.
 pub fn guard(
     period: usize,
     s: &[u8],
-    p: usize,
+    at: Result<usize, Fault>,
     names: &[Name; NAME_SLOTS],
 ) -> Result<ConstraintRead, Fault>
     requires { TickLength period × (length s.now ≤ largest_text) }
-    ensures { result ≡ guard period s.now p names.now }
+    ensures { result ≡ onward (λ p. guard period s.now p names.now) at }
 {
     optional(
         period,
         s,
-        p,
+        at?,
         names,
         reader_tokens::GUARD,
         false,
@@ -252,20 +259,20 @@ pub fn guard(
     )
 }
 
-// The invariant of a location, where there is one (SPECIFICATION 3.1).
+// The invariant of a location, where there is one (SPECIFICATION 3.1). A fault of the stage before stays.
 pub fn invariant(
     period: usize,
     s: &[u8],
-    p: usize,
+    at: Result<usize, Fault>,
     names: &[Name; NAME_SLOTS],
 ) -> Result<ConstraintRead, Fault>
     requires { TickLength period × (length s.now ≤ largest_text) }
-    ensures { result ≡ invariant period s.now p names.now }
+    ensures { result ≡ onward (λ p. invariant period s.now p names.now) at }
 {
     optional(
         period,
         s,
-        p,
+        at?,
         names,
         reader_tokens::OPEN,
         true,

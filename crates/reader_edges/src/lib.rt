@@ -3,6 +3,7 @@
 
 ghost use Rattle.std.specs.Prelude.{◌≡◌, ◌≤◌, ◌<◌, length, get_or};
 ghost use Rattle.reader_record.specs.Record.{no_channel};
+ghost use Rattle.reader_parts.specs.Stages.{onward};
 ghost use Rattle.reader_edges.specs.Labels.{mark_next, fits, mark_judged, label_of, label_next};
 ghost use Rattle.reader_edges.specs.Assigns.{no_assignments, then_assigned};
 ghost use Rattle.reader_edges.specs.Assigns.{assign_next, assign_items, assigns};
@@ -104,13 +105,20 @@ fn label_next(
     requires { length s.now ≤ largest_text }
     ensures { result ≡ label_next s.now p names.now channels.now }
 {
-    let synced = reader_parts::take(s, p, reader_tokens::SYNC)?;
-    let channel = reader_parts::use_name(s, synced, names, FIRST_CHANNEL, CHANNEL_LIMIT, false)?;
+    let synced = reader_parts::take(s, Ok(p), reader_tokens::SYNC)?;
+    let channel = reader_parts::use_name(
+        s,
+        Ok(synced),
+        names,
+        FIRST_CHANNEL,
+        CHANNEL_LIMIT,
+        false,
+    )?;
     let mark = mark_next(s, channel.end)?;
     let k = channel.number;
     let right = fits(direction_at(channels, k), mark.input);
     let marked = mark_judged(right, channel.place, mark.end)?;
-    let end = reader_parts::take(s, marked, reader_tokens::SEMICOLON)?;
+    let end = reader_parts::take(s, Ok(marked), reader_tokens::SEMICOLON)?;
     Ok(LabelRead {
         channel: k,
         input: mark.input,
@@ -138,9 +146,9 @@ fn assign_next(
     requires { TickLength period × (length s.now ≤ largest_text) }
     ensures { result ≡ assign_next period s.now p names.now }
 {
-    let clock = reader_parts::use_name(s, p, names, FIRST_CLOCK, CLOCK_LIMIT, false)?;
-    let becomes = reader_parts::take(s, clock.end, reader_tokens::BECOMES)?;
-    let given = reader_constraints::constant(period, s, becomes, LEAST_ASSIGNED)?;
+    let clock = reader_parts::use_name(s, Ok(p), names, FIRST_CLOCK, CLOCK_LIMIT, false)?;
+    let becomes = reader_parts::take(s, Ok(clock.end), reader_tokens::BECOMES)?;
+    let given = reader_constraints::constant(period, s, Ok(becomes), LEAST_ASSIGNED)?;
     Ok(AssignRead {
         clock: clock.number,
         value: given.value as u16,
@@ -191,14 +199,14 @@ fn assign_items(
     loop {
         let x = assign_next(period, s, q, names)?;
         all[x.clock] = then_assigned(all[x.clock], x.value);
-        if !reader_parts::ahead(s, x.end, reader_tokens::COMMA) {
-            let end = reader_parts::take(s, x.end, reader_tokens::SEMICOLON)?;
+        if !reader_parts::ahead(s, Ok(x.end), reader_tokens::COMMA) {
+            let end = reader_parts::take(s, Ok(x.end), reader_tokens::SEMICOLON)?;
             return Ok(AssignsRead {
                 assignments: all,
                 end,
             });
         }
-        q = reader_parts::take(s, x.end, reader_tokens::COMMA)?;
+        q = reader_parts::take(s, Ok(x.end), reader_tokens::COMMA)?;
     }
 }
 
@@ -213,13 +221,13 @@ fn assigns(
     requires { TickLength period × (length s.now ≤ largest_text) }
     ensures { result ≡ assigns period s.now p names.now }
 {
-    if !reader_parts::ahead(s, p, reader_tokens::ASSIGN) {
+    if !reader_parts::ahead(s, Ok(p), reader_tokens::ASSIGN) {
         return Ok(AssignsRead {
             assignments: no_assignments(),
             end: p,
         });
     }
-    let q = reader_parts::take(s, p, reader_tokens::ASSIGN)?;
+    let q = reader_parts::take(s, Ok(p), reader_tokens::ASSIGN)?;
     assign_items(period, s, q, names)
 }
 
@@ -232,27 +240,29 @@ pub struct EdgeRead {
     pub end: usize,
 }
 
-// An edge. `over`: it is one edge too many.
+// An edge (SPECIFICATION 3.1). `over`: it is one edge too many, which is code 7 (SPECIFICATION 4.5). A fault of the
+// stage before stays.
 #[tactic(auto, unfolding(crate::specs::Edges::edge_next))]
 pub fn edge_next(
     period: usize,
     s: &[u8],
-    p: usize,
+    at: Result<usize, Fault>,
     names: &[Name; NAME_SLOTS],
     channels: &[Channel; CHANNEL_LIMIT],
     over: bool,
 ) -> Result<EdgeRead, Fault>
     requires { TickLength period × (length s.now ≤ largest_text) }
-    ensures { result ≡ edge_next period s.now p names.now channels.now over }
+    ensures { result ≡ onward (λ p. edge_next period s.now p names.now channels.now over) at }
 {
-    let source = reader_parts::use_name(s, p, names, FIRST_LOCATION, LOCATION_LIMIT, over)?;
-    let a = reader_parts::take(s, source.end, reader_tokens::ARROW)?;
-    let target = reader_parts::use_name(s, a, names, FIRST_LOCATION, LOCATION_LIMIT, false)?;
-    let b = reader_parts::take(s, target.end, reader_tokens::OPEN)?;
-    let given = reader_constraints::guard(period, s, b, names)?;
+    let p = at?;
+    let source = reader_parts::use_name(s, Ok(p), names, FIRST_LOCATION, LOCATION_LIMIT, over)?;
+    let a = reader_parts::take(s, Ok(source.end), reader_tokens::ARROW)?;
+    let target = reader_parts::use_name(s, Ok(a), names, FIRST_LOCATION, LOCATION_LIMIT, false)?;
+    let b = reader_parts::take(s, Ok(target.end), reader_tokens::OPEN)?;
+    let given = reader_constraints::guard(period, s, Ok(b), names)?;
     let labelled = label_next(s, given.end, names, channels)?;
     let assigned = assigns(period, s, labelled.end, names)?;
-    let end = reader_parts::take(s, assigned.end, reader_tokens::CLOSE)?;
+    let end = reader_parts::take(s, Ok(assigned.end), reader_tokens::CLOSE)?;
     let assignments = assigned.assignments;
     let edge = Edge {
         source: source.number as u8,

@@ -1,6 +1,6 @@
 -- The record in two: its head, which is what stands before the edges, and the rest. The reader has the two apart while
 -- it reads, and a part of the text is read right where that holds whatever the other one is.
-use Rattle.std.specs.Prelude.{◌≡◌, List, ℕ, Result, Ok, replicate}
+use Rattle.std.specs.Prelude.{◌≡◌, List, ℕ, Result, Ok, Err, replicate}
 use Rattle.reader_record.specs.declared.Name.{Name}
 use Rattle.reader_record.specs.declared.Channel.{Channel}
 use Rattle.reader_record.specs.declared.Edge.{Edge}
@@ -70,3 +70,8 @@ ReadsHead part r q =
 abbrev pub ReadsEdges : (State → Result State Fault) → List Name → EdgesRead → Result EdgesRead Fault → Type 0
 ReadsEdges part names r q =
     (h : Head) (init : ℕ) → part (with_head names h init r) ≡ (q >>= λ e. Ok (with_head names h init e))
+
+-- a part behind another one leads on from what that one read; a fault of it stays
+abbrev pub LeadsOn : {A B : Type 0} → (A → Result B Fault → Type 0) → Result A Fault → Result B Fault → Type 0
+LeadsOn part (Ok r) q = part r q
+LeadsOn part (Err f) q = q ≡ Err f

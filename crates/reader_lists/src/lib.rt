@@ -1,11 +1,12 @@
 // Reads the lists of a contract text: channels, clocks, locations and edges (SPECIFICATION 3.1).
 #![tactic(auto)]
 
-ghost use Rattle.std.specs.Prelude.{◌≡◌, ◌≤◌, ◌<◌, length};
+ghost use Rattle.std.specs.Prelude.{◌≡◌, ◌≤◌, ◌<◌, Ok, length};
+ghost use Rattle.reader_parts.specs.Stages.{onward};
 ghost use Rattle.reader_lists.specs.State.{blank_edge, no_text, direction_by, marked};
 ghost use Rattle.reader_lists.specs.Lists.{Item, limit, one_item, items};
 ghost use Rattle.reader_lists.specs.Turns.{item, first_slot, count, unused, after_item};
-ghost use Rattle.reader_lists.specs.Heads.{whole, no_edges, before_edges, in_place, ReadsHead, ReadsEdges};
+ghost use Rattle.reader_lists.specs.Heads.{whole, no_edges, before_edges, in_place, ReadsHead, ReadsEdges, LeadsOn};
 ghost use Rattle.limits.specs.Limits.{TickLength, largest_text, channel_limit};
 
 use limits::{CHANNEL_LIMIT, CLOCK_LIMIT, EDGE_LIMIT, LOCATION_LIMIT};
@@ -113,7 +114,7 @@ pub fn no_text() -> Text
 
 // No edges, where the reader has come to the place p and the channels are given.
 #[tactic(auto, unfolding(crate::specs::Heads::no_edges))]
-pub fn no_edges(p: usize, channels: [Channel; CHANNEL_LIMIT]) -> EdgesRead
+fn before_edges(p: usize, channels: [Channel; CHANNEL_LIMIT]) -> EdgesRead
     ensures { result ≡ before_edges p channels }
 {
     EdgesRead {
@@ -122,6 +123,17 @@ pub fn no_edges(p: usize, channels: [Channel; CHANNEL_LIMIT]) -> EdgesRead
         count: 0,
         end: p,
     }
+}
+
+// No edges, where the reader has come to a place and the channels are given (SPECIFICATION 3.1). A fault of the stage
+// before stays; there is no other.
+pub fn no_edges(
+    at: Result<usize, Fault>,
+    channels: [Channel; CHANNEL_LIMIT],
+) -> Result<EdgesRead, Fault>
+    ensures { result ≡ onward (λ p. Ok (before_edges p channels)) at }
+{
+    Ok(before_edges(at?, channels))
 }
 
 #[tactic(auto, unfolding(crate::specs::State::direction_by))]
@@ -197,13 +209,13 @@ fn count(k: Named, channels: usize, clocks: usize, locations: usize) -> usize
 fn after_item(s: &[u8], p: usize) -> Result<Turn, Fault>
     ensures { result ≡ after_item s.now p }
 {
-    let more = reader_parts::ahead(s, p, reader_tokens::COMMA);
+    let more = reader_parts::ahead(s, Ok(p), reader_tokens::COMMA);
     let sign = if more {
         reader_tokens::COMMA
     } else {
         reader_tokens::SEMICOLON
     };
-    let end = reader_parts::take(s, p, sign)?;
+    let end = reader_parts::take(s, Ok(p), sign)?;
     Ok(Turn { more, end })
 }
 
@@ -218,7 +230,7 @@ fn named_item(period: usize, s: &[u8], r: &mut HeadRead, k: Named) -> Result<(),
         r.head.clock_count,
         r.head.location_count,
     );
-    let d = reader_parts::declare(s, r.end, &r.names, first_slot(k), n, limit(k))?;
+    let d = reader_parts::declare(s, Ok(r.end), &r.names, first_slot(k), n, limit(k))?;
     let names = d.names;
     r.names = names;
     r.end = d.end;
@@ -232,7 +244,7 @@ fn named_item(period: usize, s: &[u8], r: &mut HeadRead, k: Named) -> Result<(),
             r.head.clock_count = n + 1;
         }
         Named::Location => {
-            let i = reader_constraints::invariant(period, s, d.end, &names)?;
+            let i = reader_constraints::invariant(period, s, Ok(d.end), &names)?;
             r.head.locations[n] = Location {
                 name: d.name,
                 invariant: i.constraint,
@@ -245,12 +257,17 @@ fn named_item(period: usize, s: &[u8], r: &mut HeadRead, k: Named) -> Result<(),
 }
 
 // The channels, clocks or locations, joined by commas, and `;`, where the words before them are read. One item at most
-// comes after those that there is room for, and that one is refused.
-pub fn named_items(period: usize, s: &[u8], r: HeadRead, k: Named) -> Result<HeadRead, Fault>
+// comes after those that there is room for, and that one is refused. A fault of the stage before stays.
+pub fn named_items(
+    period: usize,
+    s: &[u8],
+    at: Result<HeadRead, Fault>,
+    k: Named,
+) -> Result<HeadRead, Fault>
     requires { TickLength period × (length s.now ≤ largest_text) }
-    ensures { ReadsHead (items period (item k) s.now) r result }
+    ensures { LeadsOn (ReadsHead (items period (item k) s.now)) at result }
 {
-    let mut q = r;
+    let mut q = at?;
     for _ in 0..limit(k) {
         named_item(period, s, &mut q, k)?;
         let t = after_item(s, q.end)?;
@@ -275,7 +292,7 @@ fn edge_item(
 {
     let n = r.count;
     let full = EDGE_LIMIT <= n;
-    let e = reader_edges::edge_next(period, s, r.end, names, &r.channels, full)?;
+    let e = reader_edges::edge_next(period, s, Ok(r.end), names, &r.channels, full)?;
     let channels = marked(r.channels, e.channel, e.input);
     r.channels = channels;
     r.edges[n] = e.edge;
@@ -284,18 +301,19 @@ fn edge_item(
     Ok(())
 }
 
-// The edges, joined by commas, and `;`, from the place p on.
+// The edges, joined by commas, and `;`, from a place on (SPECIFICATION 3.1). A fault of the stage before stays.
 pub fn edges(
     period: usize,
     s: &[u8],
-    p: usize,
+    at: Result<usize, Fault>,
     names: &[Name; NAME_SLOTS],
     channels: [Channel; CHANNEL_LIMIT],
 ) -> Result<EdgesRead, Fault>
     requires { TickLength period × (length s.now ≤ largest_text) }
-    ensures { ReadsEdges (items period Item.Edge s.now) names.now (before_edges p channels) result }
+    ensures { LeadsOn (λ p. ReadsEdges (items period Item.Edge s.now) names.now (before_edges p channels)) at result }
 {
-    let mut q = no_edges(p, channels);
+    let p = at?;
+    let mut q = before_edges(p, channels);
     for _ in 0..EDGE_LIMIT {
         edge_item(period, s, names, &mut q)?;
         let t = after_item(s, q.end)?;

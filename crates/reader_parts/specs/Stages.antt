@@ -1,7 +1,7 @@
 -- Stages of the reader: each takes the byte place that it starts at, and gives what it read with the place behind it,
 -- or a fault. The first fault stays: what comes after it is not read (SPECIFICATION 4.6). Here single tokens, with
 -- codes 2 and 3 (SPECIFICATION 4.5).
-use Rattle.std.specs.Prelude.{Bool, List, ℕ, ◌-◌, Result, Ok, Err, ◌==◌, nat_lt, if◌then◌else◌}
+use Rattle.std.specs.Prelude.{Bool, false, List, ℕ, ◌-◌, Result, Ok, Err, ◌==◌, nat_lt, if◌then◌else◌}
 use Rattle.reader_tokens.specs.Kinds as kinds
 use Rattle.reader_tokens.specs.Tokens.{token_at}
 use Rattle.reader_tokens.specs.declared.Token.{Token}
@@ -16,6 +16,10 @@ abbrev pub ◌>>=◌ : {A B : Type 0} → Result A Fault → (A → Result B Fau
 Ok x >>= f = f x
 Err e >>= f = Err e
 
+-- a stage behind another one: from the place that this one gave; its fault stays
+abbrev pub onward : {A B : Type 0} → (A → Result B Fault) → Result A Fault → Result B Fault
+onward f r = r >>= f
+
 -- the next token, which has to be of the kind k: else code 2 (SPECIFICATION 4.5)
 unfoldable pub take : List ℕ → ℕ → ℕ → Result ℕ Fault
 take s p k = let t = token_at s p in if t.kind == k then Ok t.end else Err (Misfit t.place)
@@ -23,6 +27,11 @@ take s p k = let t = token_at s p in if t.kind == k then Ok t.end else Err (Misf
 -- whether the next token is of the kind k
 unfoldable pub ahead : List ℕ → ℕ → ℕ → Bool
 ahead s p k = (token_at s p).kind == k
+
+-- the same behind a stage: after a fault no token is
+abbrev pub ahead_of : List ℕ → Result ℕ Fault → ℕ → Bool
+ahead_of s (Ok p) k = ahead s p k
+ahead_of s (Err f) k = false
 
 -- a token that has to be a name: else code 2, and 3 where it is over the limit (SPECIFICATION 4.5)
 unfoldable pub name_of : Token → Result NameRead Fault

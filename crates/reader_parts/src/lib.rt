@@ -1,10 +1,11 @@
 // What each part of a contract text is read with: single tokens, names and their table. A stage takes the byte place
-// that it starts at, and answers what it read with the place behind it, or the first fault.
+// that it starts at, or the fault that a stage before gave, and answers what it read with the place behind it, or the
+// first fault (SPECIFICATION 4.6).
 #![tactic(auto)]
 
 ghost use Rattle.std.specs.Prelude.{◌≡◌, not, ◌+◌, ◌≤◌, length};
 ghost use Rattle.reader_parts.specs.Slots.{name_slots};
-ghost use Rattle.reader_parts.specs.Stages.{take, ahead, name_next};
+ghost use Rattle.reader_parts.specs.Stages.{onward, take, ahead_of, name_next};
 ghost use Rattle.reader_parts.specs.Names.{differs, slot_of, declare, use_name};
 ghost use Rattle.limits.specs.Limits.{largest_text};
 
@@ -37,12 +38,13 @@ pub enum Fault {
     OtherMark(usize),
 }
 
-// The place behind the next token, which has to be of the kind k.
+// The place behind the next token, which has to be of the kind k: else code 2 (SPECIFICATION 4.5). A fault of the
+// stage before stays.
 #[tactic(auto, unfolding(crate::specs::Stages::take))]
-pub fn take(s: &[u8], p: usize, k: usize) -> Result<usize, Fault>
-    ensures { result ≡ take s.now p k }
+pub fn take(s: &[u8], at: Result<usize, Fault>, k: usize) -> Result<usize, Fault>
+    ensures { result ≡ onward (λ p. take s.now p k) at }
 {
-    let t = reader_scanner::scan(s, p);
+    let t = reader_scanner::scan(s, at?);
     if t.kind == k {
         Ok(t.end)
     } else {
@@ -50,12 +52,15 @@ pub fn take(s: &[u8], p: usize, k: usize) -> Result<usize, Fault>
     }
 }
 
-// Whether the next token is of the kind k.
+// Whether the next token is of the kind k; after a fault of the stage before, none is.
 #[tactic(auto, unfolding(crate::specs::Stages::ahead))]
-pub fn ahead(s: &[u8], p: usize, k: usize) -> bool
-    ensures { result ≡ ahead s.now p k }
+pub fn ahead(s: &[u8], at: Result<usize, Fault>, k: usize) -> bool
+    ensures { result ≡ ahead_of s.now at k }
 {
-    reader_scanner::scan(s, p).kind == k
+    match at {
+        Ok(p) => reader_scanner::scan(s, p).kind == k,
+        Err(_) => false,
+    }
 }
 
 // A name that is read, and the place behind it.
@@ -65,12 +70,14 @@ pub struct NameRead {
     pub end: usize,
 }
 
-// The next token, which has to be a name that is not too long.
+// The next token, which has to be a name: else code 2, and 3 where it is too long (SPECIFICATION 4.5). A
+// fault of the stage before stays.
 #[tactic(auto, using(reader_tokens::specs::Spans::found_spans), unfolding(crate::specs::Stages::name_next, crate::specs::Stages::name_of))]
-pub fn name_next(s: &[u8], p: usize) -> Result<NameRead, Fault>
+pub fn name_next(s: &[u8], at: Result<usize, Fault>) -> Result<NameRead, Fault>
     requires { length s.now ≤ largest_text }
-    ensures { result ≡ name_next s.now p }
+    ensures { result ≡ onward (name_next s.now) at }
 {
+    let p = at?;
     let t = reader_scanner::scan(s, p);
     if t.kind != reader_tokens::NAME {
         return Err(Fault::Misfit(t.place));
@@ -116,20 +123,21 @@ pub struct Declaration {
     pub end: usize,
 }
 
-// A name that is declared here: number `number` of those in the `limit` slots from `first` on.
+// A name that is declared here: number `number` of those in the `limit` slots from `first` on. Code 4 where it is
+// declared before, and 7 where it is one too many (SPECIFICATION 4.5). A fault of the stage before stays.
 #[tactic(auto, unfolding(crate::specs::Names::declare, crate::specs::Names::declare_name))]
 pub fn declare(
     s: &[u8],
-    p: usize,
+    at: Result<usize, Fault>,
     names: &[Name; NAME_SLOTS],
     first: usize,
     number: usize,
     limit: usize,
 ) -> Result<Declaration, Fault>
     requires { (first + limit ≤ name_slots) × (length s.now ≤ largest_text) }
-    ensures { result ≡ declare s.now p names.now first number limit }
+    ensures { result ≡ onward (λ p. declare s.now p names.now first number limit) at }
 {
-    let read = name_next(s, p)?;
+    let read = name_next(s, at)?;
     let name = read.name;
     if find(s, names, name) < NAME_SLOTS {
         return Err(Fault::Declared(name.place as usize));
@@ -154,20 +162,21 @@ pub struct Use {
     pub end: usize,
 }
 
-// A name that has to be declared, in one of the `limit` slots from `first` on. `over`: it is one too many.
+// A name that has to be declared, in one of the `limit` slots from `first` on: else code 5. `over`: it is one too many,
+// which is code 7 (SPECIFICATION 4.5). A fault of the stage before stays.
 #[tactic(auto, unfolding(crate::specs::Names::use_name, crate::specs::Names::use_of))]
 pub fn use_name(
     s: &[u8],
-    p: usize,
+    at: Result<usize, Fault>,
     names: &[Name; NAME_SLOTS],
     first: usize,
     limit: usize,
     over: bool,
 ) -> Result<Use, Fault>
     requires { (first + limit ≤ name_slots) × (length s.now ≤ largest_text) }
-    ensures { result ≡ use_name s.now p names.now first limit over }
+    ensures { result ≡ onward (λ p. use_name s.now p names.now first limit over) at }
 {
-    let read = name_next(s, p)?;
+    let read = name_next(s, at)?;
     let place = read.name.place as usize;
     let i = find(s, names, read.name);
     if i < first || first + limit <= i {

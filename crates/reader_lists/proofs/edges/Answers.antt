@@ -9,21 +9,21 @@ use Rattle.reader_lists.proofs.edges.Goals as goal
 
 pub loop-init : goal.loop-init
 unfolding items
-loop-init c = λ h init. rw c.no_edges-q.ensures
+loop-init c = λ h init. rw c.before_edges-q.ensures
 
 pub returns-in_err-edge_item : goal.returns-in_err-edge_item
-returns-in_err-edge_item c = λ h init.
+returns-in_err-edge_item c = rw c.in_ok-p.was λ h init.
     let room = room_left edge_limit c.loop.counter c.loop-test.true in
     let read = rw c.in_err-edge_item.was at c.edge_item.ensures h init in
     rw (
-      err_is c.from_residual.result c.from_residual.ensures.1,
+      err_is c.from_residual-in_err-edge_item.result c.from_residual-in_err-edge_item.ensures.1,
       ← c.loop.invariant h init,
       room,
       turn_none _ _ _ _ _ read,
     )
 
 pub returns-in_err-t : goal.returns-in_err-t
-returns-in_err-t c = λ h init.
+returns-in_err-t c = rw c.in_ok-p.was λ h init.
     let room = room_left edge_limit c.loop.counter c.loop-test.true in
     let read = rw c.in_ok-edge_item.was at c.edge_item.ensures h init in
     rw (
@@ -34,7 +34,7 @@ returns-in_err-t c = λ h init.
     )
 
 pub returns-then-not-t : goal.returns-then-not-t
-returns-then-not-t c = λ h init.
+returns-then-not-t c = rw c.in_ok-p.was λ h init.
     let room = room_left edge_limit c.loop.counter c.loop-test.true in
     let read = rw c.in_ok-edge_item.was at c.edge_item.ensures h init in
     rw (← c.loop.invariant h init, room, turn_last _ _ _ _ _ read c.in_ok-t.ensures (not-true _ c.if-not-t.true))
@@ -47,7 +47,7 @@ loop-preserved c = λ h init.
 
 pub returns-in_err-edge_item-2 : goal.returns-in_err-edge_item-2
 unfolding items_from
-returns-in_err-edge_item-2 c = λ h init.
+returns-in_err-edge_item-2 c = rw c.in_ok-p.was λ h init.
     let none : edge_limit - c.loop.counter ≡ 0 = omega (arith, c.loop-test.false) in
     let read = rw c.in_err-edge_item-2.was at c.edge_item-2.ensures h init in
     rw (
@@ -59,7 +59,7 @@ returns-in_err-edge_item-2 c = λ h init.
 
 pub returns : goal.returns
 unfolding items_from
-returns c = λ h init.
+returns c = rw c.in_ok-p.was λ h init.
     let none : edge_limit - c.loop.counter ≡ 0 = omega (arith, c.loop-test.false) in
     let read = rw c.in_ok-edge_item-2.was at c.edge_item-2.ensures h init in
     rw (← c.loop.invariant h init, none, read)

@@ -14,18 +14,18 @@ loop-init c = λ init edges count.
     rw all
 
 pub returns-in_err-named_item : goal.returns-in_err-named_item
-returns-in_err-named_item c = λ init edges count.
+returns-in_err-named_item c = rw c.in_ok-q.was λ init edges count.
     let room = room_left (limit (item c.args.k)) c.loop.counter (rw c.limit-end.ensures at c.loop-test.true) in
     let read = rw c.in_err-named_item.was at c.named_item.ensures init edges count in
     rw (
-      err_is c.from_residual.result c.from_residual.ensures.1,
+      err_is c.from_residual-in_err-named_item.result c.from_residual-in_err-named_item.ensures.1,
       ← c.loop.invariant init edges count,
       room,
       turn_none _ _ _ _ _ read,
     )
 
 pub returns-in_err-t : goal.returns-in_err-t
-returns-in_err-t c = λ init edges count.
+returns-in_err-t c = rw c.in_ok-q.was λ init edges count.
     let room = room_left (limit (item c.args.k)) c.loop.counter (rw c.limit-end.ensures at c.loop-test.true) in
     let read = rw c.in_ok-named_item.was at c.named_item.ensures init edges count in
     rw (
@@ -36,7 +36,7 @@ returns-in_err-t c = λ init edges count.
     )
 
 pub returns-then-not-t : goal.returns-then-not-t
-returns-then-not-t c = λ init edges count.
+returns-then-not-t c = rw c.in_ok-q.was λ init edges count.
     let room = room_left (limit (item c.args.k)) c.loop.counter (rw c.limit-end.ensures at c.loop-test.true) in
     let read = rw c.in_ok-named_item.was at c.named_item.ensures init edges count in
     rw (← c.loop.invariant init edges count, room, turn_last _ _ _ _ _ read c.in_ok-t.ensures (not-true _ c.if-not-t.true))
@@ -49,7 +49,7 @@ loop-preserved c = λ init edges count.
 
 pub returns-in_err-named_item-2 : goal.returns-in_err-named_item-2
 unfolding items_from
-returns-in_err-named_item-2 c = λ init edges count.
+returns-in_err-named_item-2 c = rw c.in_ok-q.was λ init edges count.
     let none : limit (item c.args.k) - c.loop.counter ≡ 0 = omega (arith, rw c.limit-end.ensures at c.loop-test.false) in
     let read = rw c.in_err-named_item-2.was at c.named_item-2.ensures init edges count in
     rw (
@@ -61,7 +61,7 @@ returns-in_err-named_item-2 c = λ init edges count.
 
 pub returns : goal.returns
 unfolding items_from
-returns c = λ init edges count.
+returns c = rw c.in_ok-q.was λ init edges count.
     let none : limit (item c.args.k) - c.loop.counter ≡ 0 = omega (arith, rw c.limit-end.ensures at c.loop-test.false) in
     let read = rw c.in_ok-named_item-2.was at c.named_item-2.ensures init edges count in
     rw (← c.loop.invariant init edges count, none, read)

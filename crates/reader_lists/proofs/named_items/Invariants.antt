@@ -10,4 +10,4 @@ abbrev pub invariant-loop : goal.invariant-loop
 invariant-loop l =
     (init : ℕ) (edges : List Edge) (count : ℕ)
     → items_from l.period (limit (item l.k) - l.counter) (item l.k) l.s (with_rest l.q init edges count)
-    ≡ items l.period (item l.k) l.s (with_rest l.fn.r init edges count)
+    ≡ items l.period (item l.k) l.s (with_rest l.initial.q init edges count)
