@@ -7,6 +7,8 @@
 // length.
 #![tactic(auto)]
 
+ghost use Rattle.std.specs.Prelude.{◌≡◌, ◌≤◌, ◌<◌, length, IfOk, IfSome};
+
 use refusals::Refusal;
 use std::io;
 use test_input::put_refusal;
@@ -109,7 +111,9 @@ fn put_flagged(rt: &impl Print, n: usize, flag: bool) -> io::Result<()> {
 }
 
 // A sum of the items so far, with one more; the place of an item counts.
-fn added(sum: u64, item: u32) -> u64 {
+fn added(sum: u64, item: u32) -> u64
+    ensures { result < 1000000007 }
+{
     let product = sum.wrapping_mul(FACTOR);
     product.wrapping_add(u64::from(item)).wrapping_add(1) % MODULUS
 }
@@ -242,7 +246,9 @@ fn widest_call(rt: &impl Print, call: &Call, keep: &mut [u8], table: &mut [u8]) 
 }
 
 // Entries to lend. They stand behind a function because antt must not unfold an array of this length.
-fn entries() -> [u32; ENTRY_ROOM] {
+fn entries() -> [u32; ENTRY_ROOM]
+    ensures { length result ≡ 131072 }
+{
     [LENT_ENTRY; ENTRY_ROOM]
 }
 
@@ -325,38 +331,50 @@ fn lay(t: &[u8], room: &mut [u8]) {
     }
 }
 
-// The first n bytes of the room of a text.
-fn text_in(room: &[u8], n: usize) -> &[u8] {
-    room.get(..n).unwrap_or(&[])
+// The lengths that a record of texts gives.
+fn set_lengths(head: &Head, texts: &mut Texts) {
+    let [_, left_length, _, right_length, ..] = head.numbers;
+    texts.left_length = left_length;
+    texts.right_length = right_length;
 }
 
 // The two texts of a record; answers the bytes behind them.
-fn lay_texts<'a>(head: &Head, bytes: &'a [u8], texts: &mut Texts) -> Option<&'a [u8]> {
-    let [left_bytes, left_length, right_bytes, right_length, ..] = head.numbers;
+fn lay_texts<'a>(head: &Head, bytes: &'a [u8], texts: &mut Texts) -> Option<&'a [u8]>
+    ensures { IfSome result (λ rest. length rest.now ≤ length bytes.now) }
+{
+    let [left_bytes, _, right_bytes, ..] = head.numbers;
     let (left, behind) = bytes.split_at_checked(left_bytes)?;
     let (right, rest) = behind.split_at_checked(right_bytes)?;
     lay(left, &mut texts.left);
     lay(right, &mut texts.right);
-    texts.left_length = left_length;
-    texts.right_length = right_length;
+    set_lengths(head, texts);
     Some(rest)
 }
 
-// The call of a record; answers the bytes behind the given table.
+// The call of a record, left out where a text is longer than its room; answers the bytes behind the given table, and
+// those behind the head of one that is left out.
 fn run_call<'a>(
     rt: &impl Print,
     head: &Head,
     bytes: &'a [u8],
     texts: &Texts,
-) -> io::Result<Option<&'a [u8]>> {
+) -> io::Result<Option<&'a [u8]>>
+    ensures { IfOk result (λ next. IfSome next (λ rest. length rest.now ≤ length bytes.now)) }
+{
+    let (Some(left), Some(right)) = (
+        texts.left.get(..texts.left_length),
+        texts.right.get(..texts.right_length),
+    ) else {
+        return Ok(Some(bytes));
+    };
     let [keep, table, back, line, run, given] = head.numbers;
     let Some((given, rest)) = bytes.split_at_checked(given) else {
         return Ok(None);
     };
     let call = Call {
         period: head.word,
-        left: text_in(&texts.left, texts.left_length),
-        right: text_in(&texts.right, texts.right_length),
+        left,
+        right,
         given,
     };
     let lengths = Lengths {
@@ -371,7 +389,9 @@ fn run_call<'a>(
 }
 
 // The record at the start of bytes; answers the bytes behind it, if it is whole.
-fn run_record<'a>(rt: &impl Print, s: &'a [u8], texts: &mut Texts) -> io::Result<Option<&'a [u8]>> {
+fn run_record<'a>(rt: &impl Print, s: &'a [u8], texts: &mut Texts) -> io::Result<Option<&'a [u8]>>
+    ensures { IfOk result (λ next. IfSome next (λ rest. length rest.now < length s.now)) }
+{
     let Some((bytes, own)) = s.split_first_chunk::<HEAD_BYTES>() else {
         return Ok(None);
     };
@@ -382,8 +402,12 @@ fn run_record<'a>(rt: &impl Print, s: &'a [u8], texts: &mut Texts) -> io::Result
     run_call(rt, &head, own, texts)
 }
 
-// All records; there are no more of them than bytes.
+// All records; there are no more of them than bytes. Before one that gives texts they are as they come, at the lengths
+// that the first record would give.
 fn run_all(rt: &impl Print, s: &[u8], texts: &mut Texts) -> io::Result<()> {
+    if let Some((bytes, _)) = s.split_first_chunk::<HEAD_BYTES>() {
+        set_lengths(&head_of(bytes), texts);
+    }
     let mut rest = s;
     for _ in 0..s.len() {
         let Some(behind) = run_record(rt, rest, texts)? else {
