@@ -2,17 +2,21 @@
 // 4.7).
 #![tactic(auto)]
 
-ghost use Rattle.std.specs.Prelude.{◌≡◌, ◌+◌, ◌≤◌, ◌<◌, length};
+ghost use Rattle.std.specs.Prelude.{◌≡◌, ◌+◌, ◌≤◌, ◌<◌, Ok, length};
 ghost use Rattle.reader_constraints.specs.Constraints.{in_ticks, constant_of, constant, least_after, least_constant};
 ghost use Rattle.reader_constraints.specs.Constraints.{sign_of, sign_next, comparison_next};
 ghost use Rattle.reader_constraints.specs.Constraints.{blank_constraint, with_comparison, constraint, optional};
 ghost use Rattle.reader_constraints.specs.Constraints.{guard, invariant};
+ghost use Rattle.reader_constraints.specs.SoFar.{comparison_so_far, constraint_so_far, optional_so_far};
+ghost use Rattle.reader_constraints.specs.SoFar.{guard_so_far, invariant_so_far};
 ghost use Rattle.reader_tokens.specs.Scan.{over_numeral};
+ghost use Rattle.reader_record.specs.Record.{no_comparison};
 ghost use Rattle.reader_parts.specs.Stages.{onward};
+ghost use Rattle.reader_parts.specs.SoFar.{beside};
 ghost use Rattle.limits.specs.Limits.{TickLength, largest_text, comparison_limit};
 
 use limits::{CLOCK_LIMIT, COMPARISON_LIMIT, LARGEST_CONSTANT};
-use reader_parts::{FIRST_CLOCK, Fault, NAME_SLOTS};
+use reader_parts::{FIRST_CLOCK, Fault, NAME_SLOTS, Stopped};
 use reader_record::{Comparison, Constraint, Name, Sign};
 use reader_tokens::Token;
 
@@ -123,8 +127,19 @@ pub struct ComparisonRead {
     pub end: usize,
 }
 
+// Of the first clock, and as long as nothing of it is read.
+fn no_comparison() -> Comparison
+    ensures { result ≡ no_comparison }
+{
+    Comparison {
+        clock: 0,
+        sign: Sign::AtMost,
+        bound: 0,
+    }
+}
+
 // A clock, a sign and a numeral. `over`: it is one comparison too many.
-#[tactic(auto, unfolding(crate::specs::Constraints::comparison_next))]
+#[tactic(auto, unfolding(crate::specs::Constraints::comparison_next, crate::specs::SoFar::comparison_so_far))]
 fn comparison_next(
     period: usize,
     s: &[u8],
@@ -132,21 +147,22 @@ fn comparison_next(
     names: &[Name; NAME_SLOTS],
     invariant: bool,
     over: bool,
-) -> Result<ComparisonRead, Fault>
+) -> Result<ComparisonRead, Stopped<Comparison>>
     requires { TickLength period × (length s.now ≤ largest_text) }
-    ensures { result ≡ comparison_next period s.now p names.now invariant over }
+    ensures { result ≡ beside (comparison_so_far period s.now (Ok p) names.now invariant over)
+        (comparison_next period s.now p names.now invariant over) }
 {
-    let clock = reader_parts::use_name(s, Ok(p), names, FIRST_CLOCK, CLOCK_LIMIT, over)?;
-    let read = sign_next(s, clock.end, invariant)?;
+    let mut x = no_comparison();
+    let used = reader_parts::use_name(s, Ok(p), names, FIRST_CLOCK, CLOCK_LIMIT, over);
+    let clock = reader_parts::beside(x, used)?;
+    x.clock = clock.number as u8;
+    let read = reader_parts::beside(x, sign_next(s, clock.end, invariant))?;
+    x.sign = read.sign;
     let least = least_constant(invariant, read.sign);
-    let bound = constant(period, s, Ok(read.end), least)?;
-    let comparison = Comparison {
-        clock: clock.number as u8,
-        sign: read.sign,
-        bound: bound.value as u16,
-    };
+    let bound = reader_parts::beside(x, constant(period, s, Ok(read.end), least))?;
+    x.bound = bound.value as u16;
     Ok(ComparisonRead {
-        comparison,
+        comparison: x,
         end: bound.end,
     })
 }
@@ -155,13 +171,8 @@ fn comparison_next(
 pub fn blank_constraint() -> Constraint
     ensures { result ≡ blank_constraint }
 {
-    let none = Comparison {
-        clock: 0,
-        sign: Sign::AtMost,
-        bound: 0,
-    };
     Constraint {
-        comparisons: [none; COMPARISON_LIMIT],
+        comparisons: [no_comparison(); COMPARISON_LIMIT],
         count: 0,
     }
 }
@@ -192,66 +203,77 @@ fn constraint(
     names: &[Name; NAME_SLOTS],
     invariant: bool,
     closing: usize,
-) -> Result<ConstraintRead, Fault>
+) -> Result<ConstraintRead, Stopped<Constraint>>
     requires { TickLength period × (length s.now ≤ largest_text) }
-    ensures { result ≡ constraint period s.now p names.now invariant closing }
+    ensures { result ≡ beside
+        (constraint_so_far period comparison_limit s.now names.now invariant (Ok p) blank_constraint)
+        (constraint period s.now p names.now invariant closing) }
 {
     let mut c = blank_constraint();
     let mut q = p;
     for _ in 0..COMPARISON_LIMIT {
-        let x = comparison_next(period, s, q, names, invariant, false)?;
+        let x = match comparison_next(period, s, q, names, invariant, false) {
+            Ok(x) => x,
+            Err(e) => return reader_parts::beside(with_comparison(c, e.read), Err(e.fault)),
+        };
         c = with_comparison(c, x.comparison);
         if !reader_parts::ahead(s, Ok(x.end), reader_tokens::BOTH) {
-            let end = reader_parts::take(s, Ok(x.end), closing)?;
+            let end = reader_parts::beside(c, reader_parts::take(s, Ok(x.end), closing))?;
             return Ok(ConstraintRead { constraint: c, end });
         }
-        q = reader_parts::take(s, Ok(x.end), reader_tokens::BOTH)?;
+        q = reader_parts::beside(c, reader_parts::take(s, Ok(x.end), reader_tokens::BOTH))?;
     }
-    let x = comparison_next(period, s, q, names, invariant, true)?;
-    Ok(ConstraintRead {
-        constraint: c,
-        end: x.end,
-    })
+    match comparison_next(period, s, q, names, invariant, true) {
+        Ok(x) => Ok(ConstraintRead {
+            constraint: c,
+            end: x.end,
+        }),
+        Err(e) => reader_parts::beside(c, Err(e.fault)),
+    }
 }
 
 // An optional constraint: the token that opens it, its comparisons and the token that closes it.
-#[tactic(auto, unfolding(crate::specs::Constraints::optional))]
+#[tactic(auto, unfolding(crate::specs::Constraints::optional, crate::specs::Constraints::constraint, crate::specs::SoFar::optional_so_far))]
 fn optional(
     period: usize,
     s: &[u8],
-    p: usize,
+    at: Result<usize, Fault>,
     names: &[Name; NAME_SLOTS],
     opening: usize,
     invariant: bool,
     closing: usize,
-) -> Result<ConstraintRead, Fault>
+) -> Result<ConstraintRead, Stopped<Constraint>>
     requires { TickLength period × (length s.now ≤ largest_text) }
-    ensures { result ≡ optional period opening invariant closing s.now p names.now }
+    ensures { result ≡ beside (optional_so_far period opening invariant s.now at names.now)
+        (onward (λ p. optional period opening invariant closing s.now p names.now) at) }
 {
-    if !reader_parts::ahead(s, Ok(p), opening) {
+    let none = blank_constraint();
+    if !reader_parts::ahead(s, at, opening) {
         return Ok(ConstraintRead {
-            constraint: blank_constraint(),
-            end: p,
+            constraint: none,
+            end: reader_parts::beside(none, at)?,
         });
     }
-    let q = reader_parts::take(s, Ok(p), opening)?;
+    let q = reader_parts::beside(none, reader_parts::take(s, at, opening))?;
     constraint(period, s, q, names, invariant, closing)
 }
 
-// The guard of an edge, where there is one (SPECIFICATION 3.1). A fault of the stage before stays.
+// The guard of an edge, where there is one (SPECIFICATION 3.1). A fault of the stage before stays. Beside a fault stand
+// the comparisons that were read, the one with the fault among them.
 pub fn guard(
     period: usize,
     s: &[u8],
     at: Result<usize, Fault>,
     names: &[Name; NAME_SLOTS],
-) -> Result<ConstraintRead, Fault>
+) -> Result<ConstraintRead, Stopped<Constraint>>
     requires { TickLength period × (length s.now ≤ largest_text) }
-    ensures { result ≡ onward (λ p. guard period s.now p names.now) at }
+    ensures { result ≡ beside (guard_so_far period s.now at names.now)
+        (onward (λ p. guard period s.now p names.now) at) }
 {
     optional(
         period,
         s,
-        at?,
+        at,
         names,
         reader_tokens::GUARD,
         false,
@@ -259,20 +281,22 @@ pub fn guard(
     )
 }
 
-// The invariant of a location, where there is one (SPECIFICATION 3.1). A fault of the stage before stays.
+// The invariant of a location, where there is one (SPECIFICATION 3.1). A fault of the stage before stays. Beside a fault
+// stand the comparisons that were read, the one with the fault among them.
 pub fn invariant(
     period: usize,
     s: &[u8],
     at: Result<usize, Fault>,
     names: &[Name; NAME_SLOTS],
-) -> Result<ConstraintRead, Fault>
+) -> Result<ConstraintRead, Stopped<Constraint>>
     requires { TickLength period × (length s.now ≤ largest_text) }
-    ensures { result ≡ onward (λ p. invariant period s.now p names.now) at }
+    ensures { result ≡ beside (invariant_so_far period s.now at names.now)
+        (onward (λ p. invariant period s.now p names.now) at) }
 {
     optional(
         period,
         s,
-        at?,
+        at,
         names,
         reader_tokens::OPEN,
         true,

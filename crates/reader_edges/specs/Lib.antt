@@ -1,5 +1,6 @@
 pub mod Labels
 pub mod Assigns
 pub mod Edges
+pub mod SoFar
 pub mod Facts
 pub mod Progress

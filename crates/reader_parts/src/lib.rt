@@ -6,6 +6,7 @@
 ghost use Rattle.std.specs.Prelude.{◌≡◌, not, ◌+◌, ◌≤◌, length};
 ghost use Rattle.reader_parts.specs.Slots.{name_slots};
 ghost use Rattle.reader_parts.specs.Stages.{onward, take, ahead_of, name_next};
+ghost use Rattle.reader_parts.specs.SoFar.{beside, name_so_far};
 ghost use Rattle.reader_parts.specs.Names.{differs, slot_of, declare, use_name};
 ghost use Rattle.limits.specs.Limits.{largest_text};
 
@@ -36,6 +37,32 @@ pub enum Fault {
     TooLarge(usize),
     TooManyItems(usize),
     OtherMark(usize),
+}
+
+// The first fault, and what was read before it.
+#[derive(Clone, Copy, PartialEq, Eq, Debug)]
+pub struct Stopped<T> {
+    pub fault: Fault,
+    pub read: T,
+}
+
+// The fault alone, where what was read before it does not matter.
+impl<T: Copy> From<Stopped<T>> for Fault {
+    ghost from_gives = { λ e f. f ≡ e.fault };
+
+    fn from(e: Stopped<T>) -> Fault {
+        e.fault
+    }
+}
+
+// What a stage answers, with what was read before its fault beside it.
+pub fn beside<A, T: Copy>(read: T, answer: Result<A, Fault>) -> Result<A, Stopped<T>>
+    ensures { result ≡ beside read answer }
+{
+    match answer {
+        Ok(a) => Ok(a),
+        Err(fault) => Err(Stopped { fault, read }),
+    }
 }
 
 // The place behind the next token, which has to be of the kind k: else code 2 (SPECIFICATION 4.5). A fault of the
@@ -124,8 +151,9 @@ pub struct Declaration {
 }
 
 // A name that is declared here: number `number` of those in the `limit` slots from `first` on. Code 4 where it is
-// declared before, and 7 where it is one too many (SPECIFICATION 4.5). A fault of the stage before stays.
-#[tactic(auto, unfolding(crate::specs::Names::declare, crate::specs::Names::declare_name))]
+// declared before, and 7 where it is one too many (SPECIFICATION 4.5). A fault of the stage before stays. Beside a
+// fault stands the name that code 4 or 7 is about, and beside any other one the name of no bytes.
+#[tactic(auto, unfolding(crate::specs::Names::declare, crate::specs::Names::declare_name, crate::specs::SoFar::name_so_far))]
 pub fn declare(
     s: &[u8],
     at: Result<usize, Fault>,
@@ -133,17 +161,18 @@ pub fn declare(
     first: usize,
     number: usize,
     limit: usize,
-) -> Result<Declaration, Fault>
+) -> Result<Declaration, Stopped<Name>>
     requires { (first + limit ≤ name_slots) × (length s.now ≤ largest_text) }
-    ensures { result ≡ onward (λ p. declare s.now p names.now first number limit) at }
+    ensures { result ≡ beside (name_so_far s.now at) (onward (λ p. declare s.now p names.now first number limit) at) }
 {
-    let read = name_next(s, at)?;
+    let read = beside(Name { place: 0, len: 0 }, name_next(s, at))?;
     let name = read.name;
+    let place = name.place as usize;
     if find(s, names, name) < NAME_SLOTS {
-        return Err(Fault::Declared(name.place as usize));
+        return beside(name, Err(Fault::Declared(place)));
     }
     if limit <= number {
-        return Err(Fault::TooManyItems(name.place as usize));
+        return beside(name, Err(Fault::TooManyItems(place)));
     }
     let mut all = *names;
     all[first + number] = name;
