@@ -2,7 +2,9 @@
 use Rattle.std.specs.Prelude.{◌≡◌, Result, Ok, Err, IfOk, IsErrAnd}
 use Rattle.std.proofs.Common.{sym, ap, subst, refl}
 use Rattle.reader_parts.specs.declared.Fault.{Fault}
+use Rattle.reader_parts.specs.declared.Stopped.{Stopped}
 use Rattle.reader_parts.specs.Stages.{◌>>=◌}
+use Rattle.reader_parts.specs.SoFar.{beside}
 
 -- what holds of what both stages read
 pub and_then :
@@ -22,7 +24,7 @@ pub of_ok : {A : Type 0} {r : Result A Fault} {a : A} (P : A → Type 0) → IfO
 of_ok P h e = subst (λ x. IfOk x P) (sym e) h
 
 -- a result that has to be this fault, and no other
-pub err_is : {A : Type 0} (r : Result A Fault) {e : Fault} → IsErrAnd r (λ d. d ≡ e) → r ≡ Err e
+pub err_is : {A E : Type 0} (r : Result A E) {e : E} → IsErrAnd r (λ d. d ≡ e) → r ≡ Err e
 err_is (Ok x) h = absurd h
 err_is (Err d) h = ap Err h
 
@@ -37,3 +39,16 @@ pub bind_ok : {A B : Type 0} (r : Result A Fault) (f : A → Result B Fault) {b 
     → (r >>= f) ≡ Ok b → (a : A) × (r ≡ Ok a) × (f a ≡ Ok b)
 bind_ok (Ok x) f e = (x, refl, e)
 bind_ok (Err d) f e = cc
+
+-- what stands beside a fault leaves what is read
+pub beside_ok : {A B : Type 0} (b : B) (r : Result A Fault) {a : A} → Ok a ≡ beside b r → r ≡ Ok a
+beside_ok b (Ok x) e = cc
+beside_ok b (Err f) e = cc
+
+-- and the fault
+pub beside_err : {A B : Type 0} (b : B) (r : Result A Fault) {e : Stopped B} → Err e ≡ beside b r
+    → (r ≡ Err e.fault) × (b ≡ e.read)
+beside_err b (Ok x) h = cc
+beside_err b (Err f) {e} h =
+    let q : e ≡ record { fault = f; read = b } = cc in
+    (rw q refl, rw q refl)

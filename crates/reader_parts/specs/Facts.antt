@@ -1,4 +1,5 @@
--- A name that is used has a number below the limit of its kind, and one that is declared takes a number below it.
+-- A token that is ahead is taken; a name that is used has a number below the limit of its kind, and one that is declared
+-- takes a number below it.
 use Rattle.std.specs.Prelude.{◌≡◌, Bool, true, false, List, ℕ, ◌+◌, ◌<◌, Result, Ok, Err, IfOk}
 use Rattle.std.proofs.Common.{refl, arith}
 use Rattle.std.proofs.Math.Dec.{leb, ltb}
@@ -7,9 +8,22 @@ use Rattle.reader_record.specs.declared.Name.{Name}
 use Rattle.reader_parts.specs.declared.Fault.{Fault}
 use Rattle.reader_parts.specs.declared.NameRead.{NameRead}
 use Rattle.reader_parts.specs.declared.Declaration.{Declaration}
-use Rattle.reader_parts.specs.Stages.{◌>>=◌, name_next}
+use Rattle.reader_tokens.specs.Tokens.{token_at}
+use Rattle.reader_parts.specs.Stages.{◌>>=◌, take, ahead, ahead_of, name_next}
 use Rattle.reader_parts.specs.Names.{slot_of, declare_name, declare, use_of, use_name}
 use Rattle.reader_parts.specs.Slots.{name_slots}
+
+pub ahead_taken : (s : List ℕ) (p k : ℕ) → ahead s p k ≡ true → take s p k ≡ Ok (token_at s p).end
+unfolding ahead take
+ahead_taken s p k h = rw h refl
+
+-- so that no fault comes of it
+pub ahead_no_fault : (s : List ℕ) (at : Result ℕ Fault) (k : ℕ) {f : Fault} → ahead_of s at k ≡ true
+    → (at >>= λ p. take s p k) ≡ Err f → ⊥
+ahead_no_fault s (Err g) k h e = cc
+ahead_no_fault s (Ok p) k {f} h e =
+    let z : ◌≡◌ {A = Result ℕ Fault} (Ok (token_at s p).end) (Err f) = rw (ahead_taken s p k h) at e in
+    cc
 
 module _ (s : List ℕ) (names : List Name) (first limit : ℕ) (over : Bool) where
   small_of : (r : NameRead) → IfOk (use_of s names first limit over r) (λ u. u.number < limit)

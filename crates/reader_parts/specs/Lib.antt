@@ -1,7 +1,7 @@
 pub mod Slots
 pub mod Stages
-pub mod Binds
 pub mod SoFar
+pub mod Binds
 pub mod Names
 pub mod Facts
 pub mod Progress
