@@ -41,9 +41,7 @@ fn channel_part(period: usize, s: &[u8], r: HeadRead) -> Result<HeadRead, Fault>
     }
     let a = reader_parts::take(s, Ok(r.end), reader_tokens::BROADCAST)?;
     let b = reader_parts::take(s, Ok(a), reader_tokens::CHAN)?;
-    let mut from = r;
-    from.end = b;
-    reader_lists::named_items(period, s, Ok(from), Named::Channel)
+    Ok(reader_lists::named_items(period, s, Ok(b), r, Named::Channel)?)
 }
 
 // The process and its name (SPECIFICATION 3.1).
@@ -74,9 +72,7 @@ fn clock_part(period: usize, s: &[u8], r: HeadRead) -> Result<HeadRead, Fault>
         return Ok(r);
     }
     let a = reader_parts::take(s, Ok(r.end), reader_tokens::CLOCK)?;
-    let mut from = r;
-    from.end = a;
-    reader_lists::named_items(period, s, Ok(from), Named::Clock)
+    Ok(reader_lists::named_items(period, s, Ok(a), r, Named::Clock)?)
 }
 
 // The locations (SPECIFICATION 3.1).
@@ -85,9 +81,7 @@ fn location_part(period: usize, s: &[u8], r: HeadRead) -> Result<HeadRead, Fault
     ensures { ReadsHead (location_part period s.now) r result }
 {
     let a = reader_parts::take(s, Ok(r.end), reader_tokens::STATE)?;
-    let mut from = r;
-    from.end = a;
-    reader_lists::named_items(period, s, Ok(from), Named::Location)
+    Ok(reader_lists::named_items(period, s, Ok(a), r, Named::Location)?)
 }
 
 // The parts before `init`.
@@ -138,7 +132,7 @@ fn edge_part(
         return reader_lists::no_edges(Ok(p), channels);
     }
     let a = reader_parts::take(s, Ok(p), reader_tokens::TRANS)?;
-    reader_lists::edges(period, s, Ok(a), names, channels)
+    Ok(reader_lists::edges(period, s, Ok(a), names, channels)?)
 }
 
 // The name of the process again, and the end of the text (SPECIFICATION 3.1, 3.3).

@@ -1,15 +1,20 @@
--- The channel of an edge that is read is one that a text has room for, and the clock of an assignment too; no edge is
--- read where it is one too many.
-use Rattle.std.specs.Prelude.{◌≡◌, Bool, false, List, ℕ, ◌<◌, IfOk, get_or}
+-- The channel of an edge that is read is one that a text has room for, beside a fault too, and the clock of an
+-- assignment; no edge is read where it is one too many.
+use Rattle.std.specs.Prelude.{◌≡◌, Bool, false, List, ℕ, ◌<◌, Result, Ok, Err, IfOk, get_or}
+use Rattle.std.proofs.Common.{arith}
 use Rattle.reader_tokens.specs.Kinds as kinds
 use Rattle.reader_record.specs.Record.{no_channel}
 use Rattle.reader_record.specs.declared.Name.{Name}
 use Rattle.reader_record.specs.declared.Channel.{Channel}
+use Rattle.reader_parts.specs.declared.Fault.{Fault}
+use Rattle.reader_parts.specs.declared.Use.{Use}
 use Rattle.reader_parts.specs.Binds.{and_then, after}
-use Rattle.reader_parts.specs.Stages.{take}
+use Rattle.reader_parts.specs.Stages.{◌>>=◌, take}
+use Rattle.reader_parts.specs.SoFar.{read_or}
 use Rattle.reader_parts.specs.Names.{use_name}
 use Rattle.reader_parts.specs.Slots.{first_channel, first_clock, first_location}
 use Rattle.reader_parts.specs.Facts.{use_small, use_not_over}
+use Rattle.reader_constraints.specs.declared.ConstraintRead.{ConstraintRead}
 use Rattle.reader_constraints.specs.Constraints.{constant, guard}
 use Rattle.reader_edges.specs.declared.LabelRead.{LabelRead}
 use Rattle.reader_edges.specs.declared.AssignRead.{AssignRead}
@@ -17,6 +22,7 @@ use Rattle.reader_edges.specs.declared.EdgeRead.{EdgeRead}
 use Rattle.reader_edges.specs.Labels.{mark_next, mark_judged, fits, label_next}
 use Rattle.reader_edges.specs.Assigns.{assign_next, assigns}
 use Rattle.reader_edges.specs.Edges.{edge_next}
+use Rattle.reader_edges.specs.SoFar.{label_so_far, edge_so_far}
 use Rattle.limits.specs.Limits.{channel_limit, clock_limit, location_limit}
 
 abbrev Labelled : LabelRead → Type 0
@@ -77,3 +83,53 @@ module _ (period : ℕ) (s : List ℕ) (p : ℕ) (names : List Name) (channels :
       (λ g. after (label_next s g.end names channels) _ Room
       (λ l. after (assigns period s l.end names) _ Room
       (λ z. after (take s z.end kinds.closes) _ Room (λ q. h))))))))
+
+-- the same behind a stage
+module _
+    (period : ℕ) (s : List ℕ) (at : Result ℕ Fault) (names : List Name) (channels : List Channel) (over : Bool)
+  where
+    pub channel_at : IfOk (at >>= λ p. edge_next period s p names channels over) Led
+    channel_at = after at _ Led (λ p. channel_small period s p names channels over)
+
+    pub edge_room : IfOk (at >>= λ p. edge_next period s p names channels over) (λ _. over ≡ false)
+    edge_room = after at _ (λ _. over ≡ false) (λ p. edge_not_over period s p names channels over)
+
+-- the channel of a label that has a fault
+module _ (s : List ℕ) (names : List Name) where
+  channel_read : (u : Result Use Fault) → IfOk u (λ v. v.number < channel_limit)
+      → read_or (λ v. v.number) u 0 < channel_limit
+  channel_read (Ok v) h = h
+  channel_read (Err f) h = omega arith
+
+  pub label_stopped : (at : Result ℕ Fault) → (label_so_far s at names).channel < channel_limit
+  unfolding label_so_far
+  label_stopped at = by (at >>= λ p. take s p kinds.sync)
+    where
+      by : (a : Result ℕ Fault)
+          → read_or (λ v. v.number) (a >>= λ p. use_name s p names first_channel channel_limit false) 0 < channel_limit
+      by (Err f) = omega arith
+      by (Ok p) = channel_read (use_name s p names first_channel channel_limit false)
+          (use_small s names first_channel channel_limit false p)
+
+-- that of an edge that has one
+module _
+    (period : ℕ) (s : List ℕ) (at : Result ℕ Fault) (names : List Name) (channels : List Channel) (over : Bool)
+  where
+    pub stopped_small : (edge_so_far period s at names channels over).channel < channel_limit
+    unfolding edge_so_far
+    stopped_small = by (at >>= (λ p. use_name s p names first_location location_limit over)
+        >>= (λ u. take s u.end kinds.arrow)
+        >>= (λ p. use_name s p names first_location location_limit false)
+        >>= (λ u. take s u.end kinds.opens)
+        >>= λ p. guard period s p names)
+      where
+        labelled : (p : ℕ) (l : Result LabelRead Fault) → IfOk l Labelled
+            → read_or (λ x. x.channel) l (label_so_far s (Ok p) names).channel < channel_limit
+        labelled p (Ok l) h = h
+        labelled p (Err f) h = label_stopped s names (Ok p)
+
+        by : (g : Result ConstraintRead Fault)
+            → read_or (λ l. l.channel) (g >>= λ x. label_next s x.end names channels)
+            (label_so_far s (g >>= λ x. Ok x.end) names).channel < channel_limit
+        by (Err f) = label_stopped s names (Err f)
+        by (Ok x) = labelled x.end (label_next s x.end names channels) (label_small s x.end names channels)

@@ -45,7 +45,7 @@ module _ (period : ℕ) where
       let end = x >>= λ y. Ok y.end in
       let stopped = assign_so_far s at names in
       let all = read_or (λ y. with_assignment before y.clock y.value) x
-          (with_assignment before stopped.clock stopped.value) in
+      (with_assignment before stopped.clock stopped.value) in
       let more = assigns_so_far_from room s names (end >>= λ q. take s q kinds.comma) all in
       if ahead_of s end kinds.comma then more else all
 

@@ -6,12 +6,17 @@ ghost use Rattle.reader_parts.specs.Stages.{onward};
 ghost use Rattle.reader_lists.specs.State.{blank_edge, no_text, direction_by, marked};
 ghost use Rattle.reader_lists.specs.Lists.{Item, limit, one_item, items};
 ghost use Rattle.reader_lists.specs.Turns.{item, first_slot, count, unused, after_item};
-ghost use Rattle.reader_lists.specs.Heads.{whole, no_edges, before_edges, in_place, ReadsHead, ReadsEdges, LeadsOn};
-ghost use Rattle.limits.specs.Limits.{TickLength, largest_text, channel_limit};
+ghost use Rattle.reader_lists.specs.SoFar.{held_next, held_so_far, item_so_far, items_so_far};
+ghost use Rattle.reader_lists.specs.Heads.{whole, no_edges, before_edges, none_so_far, head_at, held, edges_at};
+ghost use Rattle.reader_lists.specs.Heads.{added, edge_added, ReadsHead, ReadsEdges, LeadsOn};
+ghost use Rattle.reader_lists.specs.Heads.{HeadGoes, EdgesGo, HeadBeside, EdgesBeside};
+ghost use Rattle.reader_parts.specs.SoFar.{beside, alone};
+ghost use Rattle.limits.specs.Limits.{TickLength, largest_text, channel_limit, edge_limit};
 
 use limits::{CHANNEL_LIMIT, CLOCK_LIMIT, EDGE_LIMIT, LOCATION_LIMIT};
-use reader_parts::{FIRST_CHANNEL, FIRST_CLOCK, FIRST_LOCATION, Fault, NAME_SLOTS};
-use reader_record::{Channel, Direction, Edge, Label, Location, Name, Text};
+use reader_constraints::ConstraintRead;
+use reader_parts::{FIRST_CHANNEL, FIRST_CLOCK, FIRST_LOCATION, Fault, NAME_SLOTS, Stopped};
+use reader_record::{Channel, Constraint, Direction, Edge, Label, Location, Name, Text};
 
 // The kinds of item that declare a name.
 #[derive(Clone, Copy)]
@@ -48,6 +53,13 @@ pub struct HeadRead {
     pub end: usize,
 }
 
+// The declared names by their slots, and the head so far: what was read of it before a fault.
+#[derive(Clone, Copy)]
+pub struct HeadSoFar {
+    pub names: [Name; NAME_SLOTS],
+    pub head: Head,
+}
+
 // The channels with the directions that the edges say, the edges so far, and the place behind them.
 #[derive(Clone, Copy)]
 pub struct EdgesRead {
@@ -55,6 +67,14 @@ pub struct EdgesRead {
     pub edges: [Edge; EDGE_LIMIT],
     pub count: usize,
     pub end: usize,
+}
+
+// The channels with the directions that the edges say, and the edges so far: what was read of them before a fault.
+#[derive(Clone, Copy)]
+pub struct EdgesSoFar {
+    pub channels: [Channel; CHANNEL_LIMIT],
+    pub edges: [Edge; EDGE_LIMIT],
+    pub count: usize,
 }
 
 #[tactic(auto, unfolding(crate::specs::State::blank_edge))]
@@ -112,15 +132,40 @@ pub fn no_text() -> Text
     }
 }
 
-// No edges, where the reader has come to the place p and the channels are given.
+// No edges, and the channels are given.
 #[tactic(auto, unfolding(crate::specs::Heads::no_edges))]
-fn before_edges(p: usize, channels: [Channel; CHANNEL_LIMIT]) -> EdgesRead
-    ensures { result ≡ before_edges p channels }
+fn none_so_far(channels: [Channel; CHANNEL_LIMIT]) -> EdgesSoFar
+    ensures { result ≡ none_so_far channels }
 {
-    EdgesRead {
+    EdgesSoFar {
         channels,
         edges: [blank_edge(); EDGE_LIMIT],
         count: 0,
+    }
+}
+
+// What is read of the head, with the place behind it.
+fn head_at(r: HeadSoFar, p: usize) -> HeadRead
+    ensures { result ≡ head_at r p }
+{
+    let (names, head) = (r.names, r.head);
+    HeadRead {
+        names,
+        head,
+        end: p,
+    }
+}
+
+// What is read of the edges, with the place behind it.
+fn edges_at(r: EdgesSoFar, p: usize) -> EdgesRead
+    ensures { result ≡ edges_at r p }
+{
+    let channels = r.channels;
+    let edges = r.edges;
+    EdgesRead {
+        channels,
+        edges,
+        count: r.count,
         end: p,
     }
 }
@@ -133,7 +178,7 @@ pub fn no_edges(
 ) -> Result<EdgesRead, Fault>
     ensures { result ≡ onward (λ p. Ok (before_edges p channels)) at }
 {
-    Ok(before_edges(at?, channels))
+    Ok(edges_at(none_so_far(channels), at?))
 }
 
 #[tactic(auto, unfolding(crate::specs::State::direction_by))]
@@ -204,11 +249,12 @@ fn count(k: Named, channels: usize, clocks: usize, locations: usize) -> usize
     }
 }
 
-// What stands after an item: a comma, or the `;` of the list.
+// What stands after an item: a comma, or the `;` of the list. A fault of the item stays.
 #[tactic(auto, unfolding(crate::specs::Turns::after_item))]
-fn after_item(s: &[u8], p: usize) -> Result<Turn, Fault>
-    ensures { result ≡ after_item s.now p }
+fn after_item(s: &[u8], at: Result<usize, Fault>) -> Result<Turn, Fault>
+    ensures { result ≡ onward (after_item s.now) at }
 {
+    let p = at?;
     let more = reader_parts::ahead(s, Ok(p), reader_tokens::COMMA);
     let sign = if more {
         reader_tokens::COMMA
@@ -219,10 +265,58 @@ fn after_item(s: &[u8], p: usize) -> Result<Turn, Fault>
     Ok(Turn { more, end })
 }
 
-// One item more of the kind k, written in place.
-fn named_item(period: usize, s: &[u8], r: &mut HeadRead, k: Named) -> Result<(), Fault>
+// What may follow the name of an item of the kind k: the invariant of a location.
+#[tactic(auto, unfolding(crate::specs::SoFar::held_next, crate::specs::SoFar::held_so_far))]
+fn held_next(
+    period: usize,
+    s: &[u8],
+    p: usize,
+    names: &[Name; NAME_SLOTS],
+    k: Named,
+) -> Result<ConstraintRead, Stopped<Constraint>>
     requires { TickLength period × (length s.now ≤ largest_text) }
-    ensures { ReadsHead (one_item period (item k) s.now) r.old (in_place result r.new) }
+    ensures { result ≡ beside (held_so_far period k s.now p names.now) (held_next period k s.now p names.now) }
+{
+    match k {
+        Named::Location => reader_constraints::invariant(period, s, Ok(p), names),
+        _ => Ok(ConstraintRead {
+            constraint: reader_constraints::blank_constraint(),
+            end: p,
+        }),
+    }
+}
+
+// One item of the kind k more, by its name; `invariant` is that of a location.
+fn add(h: &mut Head, k: Named, name: Name, invariant: Constraint)
+    requires { count k h.old.channel_count h.old.clock_count h.old.location_count < limit (item k) }
+    ensures { h.new ≡ added k h.old name invariant }
+{
+    match k {
+        Named::Channel => {
+            h.channels[h.channel_count] = unused(name);
+            h.channel_count += 1;
+        }
+        Named::Clock => {
+            h.clocks[h.clock_count] = name;
+            h.clock_count += 1;
+        }
+        Named::Location => {
+            h.locations[h.location_count] = Location { name, invariant };
+            h.location_count += 1;
+        }
+    }
+}
+
+// One item more of the kind k, written in place, with a fault too where there is room for it, and the place behind it.
+fn named_item(
+    period: usize,
+    s: &[u8],
+    at: Result<usize, Fault>,
+    r: &mut HeadSoFar,
+    k: Named,
+) -> Result<usize, Fault>
+    requires { TickLength period × (length s.now ≤ largest_text) }
+    ensures { HeadGoes (one_item period (item k) s.now) (item_so_far period (item k) s.now) at r.old result r.new }
 {
     let n = count(
         k,
@@ -230,98 +324,133 @@ fn named_item(period: usize, s: &[u8], r: &mut HeadRead, k: Named) -> Result<(),
         r.head.clock_count,
         r.head.location_count,
     );
-    let d = reader_parts::declare(s, Ok(r.end), &r.names, first_slot(k), n, limit(k))?;
-    let names = d.names;
-    r.names = names;
-    r.end = d.end;
-    match k {
-        Named::Channel => {
-            r.head.channels[n] = unused(d.name);
-            r.head.channel_count = n + 1;
+    match reader_parts::declare(s, at, &r.names, first_slot(k), n, limit(k)) {
+        Ok(d) => {
+            let names = d.names;
+            r.names = names;
+            match held_next(period, s, d.end, &names, k) {
+                Ok(i) => {
+                    add(&mut r.head, k, d.name, i.constraint);
+                    Ok(i.end)
+                }
+                Err(e) => {
+                    add(&mut r.head, k, d.name, e.read);
+                    Err(e.fault)
+                }
+            }
         }
-        Named::Clock => {
-            r.head.clocks[n] = d.name;
-            r.head.clock_count = n + 1;
-        }
-        Named::Location => {
-            let i = reader_constraints::invariant(period, s, Ok(d.end), &names)?;
-            r.head.locations[n] = Location {
-                name: d.name,
-                invariant: i.constraint,
-            };
-            r.head.location_count = n + 1;
-            r.end = i.end;
+        Err(e) => {
+            if n < limit(k) {
+                add(&mut r.head, k, e.read, reader_constraints::blank_constraint());
+            }
+            Err(e.fault)
         }
     }
-    Ok(())
 }
 
-// The channels, clocks or locations, joined by commas, and `;`, where the words before them are read. One item at most
-// comes after those that there is room for, and that one is refused. A fault of the stage before stays.
+// The channels, clocks or locations, joined by commas, and `;`, where the words before them are read and the place in r
+// is not used (SPECIFICATION 3.1). One item at most comes after those that there is room for, and that one is refused. A
+// fault of the stage before stays. Beside a fault stand the items that were read, the one with the fault among them.
 pub fn named_items(
     period: usize,
     s: &[u8],
-    at: Result<HeadRead, Fault>,
+    at: Result<usize, Fault>,
+    r: HeadRead,
     k: Named,
-) -> Result<HeadRead, Fault>
+) -> Result<HeadRead, Stopped<HeadSoFar>>
     requires { TickLength period × (length s.now ≤ largest_text) }
-    ensures { LeadsOn (ReadsHead (items period (item k) s.now)) at result }
+    ensures read { LeadsOn (λ p. ReadsHead (items period (item k) s.now) (head_at (held r) p)) at (alone result) }
+    ensures beside { HeadBeside (items_so_far period (item k) s.now at) (held r) result }
 {
-    let mut q = at?;
+    let (names, head) = (r.names, r.head);
+    let mut q = HeadSoFar { names, head };
+    let mut at = at;
     for _ in 0..limit(k) {
-        named_item(period, s, &mut q, k)?;
-        let t = after_item(s, q.end)?;
-        q.end = t.end;
-        if !t.more {
-            return Ok(q);
+        let item = named_item(period, s, at, &mut q, k);
+        match after_item(s, item) {
+            Ok(t) => {
+                if !t.more {
+                    return Ok(head_at(q, t.end));
+                }
+                at = Ok(t.end);
+            }
+            Err(fault) => return Err(Stopped { fault, read: q }),
         }
     }
-    named_item(period, s, &mut q, k)?;
-    Ok(q)
+    match named_item(period, s, at, &mut q, k) {
+        Ok(end) => Ok(head_at(q, end)),
+        Err(fault) => Err(Stopped { fault, read: q }),
+    }
 }
 
-// One edge more, written in place with the direction of its channel.
+// One edge more, with the direction of its channel.
+fn add_edge(r: &mut EdgesSoFar, edge: Edge, channel: usize, input: bool)
+    requires { (r.old.count < edge_limit) × (channel < channel_limit) }
+    ensures { r.new ≡ edge_added r.old edge channel input }
+{
+    r.channels = marked(r.channels, channel, input);
+    r.edges[r.count] = edge;
+    r.count += 1;
+}
+
+// One edge more, written in place with the direction of its channel, with a fault too where there is room for it, and
+// the place behind it.
 fn edge_item(
     period: usize,
     s: &[u8],
+    at: Result<usize, Fault>,
     names: &[Name; NAME_SLOTS],
-    r: &mut EdgesRead,
-) -> Result<(), Fault>
+    r: &mut EdgesSoFar,
+) -> Result<usize, Fault>
     requires { TickLength period × (length s.now ≤ largest_text) }
-    ensures { ReadsEdges (one_item period Item.Edge s.now) names.now r.old (in_place result r.new) }
+    ensures { EdgesGo (one_item period Item.Edge s.now) (item_so_far period Item.Edge s.now) names.now at r.old result
+        r.new }
 {
-    let n = r.count;
-    let full = EDGE_LIMIT <= n;
-    let e = reader_edges::edge_next(period, s, Ok(r.end), names, &r.channels, full)?;
-    let channels = marked(r.channels, e.channel, e.input);
-    r.channels = channels;
-    r.edges[n] = e.edge;
-    r.count = n + 1;
-    r.end = e.end;
-    Ok(())
+    let full = EDGE_LIMIT <= r.count;
+    match reader_edges::edge_next(period, s, at, names, &r.channels, full) {
+        Ok(e) => {
+            add_edge(r, e.edge, e.channel, e.input);
+            Ok(e.end)
+        }
+        Err(e) => {
+            if !full {
+                add_edge(r, e.read.edge, e.read.channel, e.read.input);
+            }
+            Err(e.fault)
+        }
+    }
 }
 
-// The edges, joined by commas, and `;`, from a place on (SPECIFICATION 3.1). A fault of the stage before stays.
+// The edges, joined by commas, and `;`, from a place on (SPECIFICATION 3.1). A fault of the stage before stays. Beside a
+// fault stand the edges that were read, the one with the fault among them.
 pub fn edges(
     period: usize,
     s: &[u8],
     at: Result<usize, Fault>,
     names: &[Name; NAME_SLOTS],
     channels: [Channel; CHANNEL_LIMIT],
-) -> Result<EdgesRead, Fault>
+) -> Result<EdgesRead, Stopped<EdgesSoFar>>
     requires { TickLength period × (length s.now ≤ largest_text) }
-    ensures { LeadsOn (λ p. ReadsEdges (items period Item.Edge s.now) names.now (before_edges p channels)) at result }
+    ensures read { LeadsOn (λ p. ReadsEdges (items period Item.Edge s.now) names.now (before_edges p channels)) at
+        (alone result) }
+    ensures beside { EdgesBeside (items_so_far period Item.Edge s.now at) names.now (none_so_far channels) result }
 {
-    let p = at?;
-    let mut q = before_edges(p, channels);
+    let mut q = none_so_far(channels);
+    let mut at = at;
     for _ in 0..EDGE_LIMIT {
-        edge_item(period, s, names, &mut q)?;
-        let t = after_item(s, q.end)?;
-        q.end = t.end;
-        if !t.more {
-            return Ok(q);
+        let item = edge_item(period, s, at, names, &mut q);
+        match after_item(s, item) {
+            Ok(t) => {
+                if !t.more {
+                    return Ok(edges_at(q, t.end));
+                }
+                at = Ok(t.end);
+            }
+            Err(fault) => return Err(Stopped { fault, read: q }),
         }
     }
-    edge_item(period, s, names, &mut q)?;
-    Ok(q)
+    match edge_item(period, s, at, names, &mut q) {
+        Ok(end) => Ok(edges_at(q, end)),
+        Err(fault) => Err(Stopped { fault, read: q }),
+    }
 }

@@ -84,3 +84,8 @@ module _ (s : List ℕ) (names : List Name) (first number limit : ℕ) where
       by : (a : Result NameRead Fault) → IfOk (a >>= declare_name s names first number limit) (λ _. number < limit)
       by (Ok r) = room_of r
       by (Err e) = tt
+
+  -- the same behind a stage
+  pub declare_at : (at : Result ℕ Fault) → IfOk (at >>= λ p. declare s p names first number limit) (λ _. number < limit)
+  declare_at (Ok p) = declare_room p
+  declare_at (Err f) = tt

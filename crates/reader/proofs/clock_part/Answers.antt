@@ -21,12 +21,25 @@ returns-in_err-a c = λ init edges count.
       ← c.in_err-a.ensures,
     )
 
+pub returns-in_err-named_items : goal.returns-in_err-named_items
+unfolding list_part next_token
+returns-in_err-named_items c = λ init edges count.
+    let some : c.ahead.result ≡ true = c.if-not-ahead.false in
+    let read = rw c.in_err-named_items.was at c.named_items.ensures.read init edges count in
+    rw (
+      err_is c.from_residual-in_err-named_items.result c.from_residual-in_err-named_items.ensures.1,
+      sym c.ahead.ensures ∙ some,
+      ← c.in_ok-a.ensures,
+      read,
+    )
+
 pub returns : goal.returns
 unfolding list_part next_token
 returns c = λ init edges count.
     let some : c.ahead.result ≡ true = c.if-not-ahead.false in
+    let read = rw c.in_ok-named_items.was at c.named_items.ensures.read init edges count in
     rw (
       sym c.ahead.ensures ∙ some,
       ← c.in_ok-a.ensures,
-      c.named_items.ensures init edges count,
+      read,
     )

@@ -21,8 +21,25 @@ returns-in_err-a c = λ h init.
       ← c.in_err-a.ensures,
     )
 
+pub returns-in_err-edges : goal.returns-in_err-edges
+unfolding list_part next_token
+returns-in_err-edges c = λ h init.
+    let some : c.ahead.result ≡ true = c.if-not-ahead.false in
+    let read = rw c.in_err-edges.was at c.edges.ensures.read h init in
+    rw (
+      err_is c.from_residual-in_err-edges.result c.from_residual-in_err-edges.ensures.1,
+      sym c.ahead.ensures ∙ some,
+      ← c.in_ok-a.ensures,
+      read,
+    )
+
 pub returns : goal.returns
 unfolding list_part next_token
 returns c = λ h init.
     let some : c.ahead.result ≡ true = c.if-not-ahead.false in
-    rw (sym c.ahead.ensures ∙ some, ← c.in_ok-a.ensures, c.edges.ensures h init)
+    let read = rw c.in_ok-edges.was at c.edges.ensures.read h init in
+    rw (
+      sym c.ahead.ensures ∙ some,
+      ← c.in_ok-a.ensures,
+      read,
+    )

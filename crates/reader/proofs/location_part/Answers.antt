@@ -9,6 +9,21 @@ unfolding location_part next_token
 returns-in_err-a c = λ init edges count.
     rw (err_is c.from_residual.result c.from_residual.ensures.1, ← c.in_err-a.ensures)
 
+pub returns-in_err-named_items : goal.returns-in_err-named_items
+unfolding location_part next_token
+returns-in_err-named_items c = λ init edges count.
+    let read = rw c.in_err-named_items.was at c.named_items.ensures.read init edges count in
+    rw (
+      err_is c.from_residual-in_err-named_items.result c.from_residual-in_err-named_items.ensures.1,
+      ← c.in_ok-a.ensures,
+      read,
+    )
+
 pub returns : goal.returns
 unfolding location_part next_token
-returns c = λ init edges count. rw (← c.in_ok-a.ensures, c.named_items.ensures init edges count)
+returns c = λ init edges count.
+    let read = rw c.in_ok-named_items.was at c.named_items.ensures.read init edges count in
+    rw (
+      ← c.in_ok-a.ensures,
+      read,
+    )

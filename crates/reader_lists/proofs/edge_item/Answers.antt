@@ -1,39 +1,43 @@
--- There is room for the edge that is read, and its channel is one of a text.
-use Rattle.std.proofs.Common.{◌≡◌, ◌<◌, false, arith, nat_le}
-use Rattle.std.proofs.Common.{leb-false}
-use Rattle.reader_parts.specs.Binds.{of_ok, err_is}
-use Rattle.reader_edges.specs.Facts.{channel_small, edge_not_over}
+-- There is room for the edge that is read, and its channel is one of a text; each return is what `edge_item` adds.
+use Rattle.std.proofs.Common.{◌≡◌, ◌<◌, false, nat_le, sym, leb-false}
+use borrow.Author.Tests.{lt-leb, le-leb}
+use Rattle.reader_parts.specs.Binds.{of_ok, beside_ok, beside_err}
+use Rattle.reader_edges.specs.Facts.{channel_at, edge_room, stopped_small}
 use Rattle.reader_lists.specs.State.{with_edge}
-use Rattle.reader_lists.specs.Lists.{edge_item}
+use Rattle.reader_lists.specs.Heads.{head_so_far}
 use Rattle.limits.specs.Limits.{channel_limit, edge_limit}
+use Rattle.reader_lists.proofs.Laws.{edge_goes, edge_stops, edge_full}
 use Rattle.reader_lists.proofs.edge_item.Goals as goal
 
-pub returns-in_err-e : goal.returns-in_err-e
-unfolding edge_item
-returns-in_err-e c = λ h init. rw (err_is c.from_residual.result c.from_residual.ensures.1, ← c.in_err-e.ensures)
+pub add_edge-requires : goal.add_edge-requires
+add_edge-requires c =
+    let read = sym (beside_ok _ _ c.in-Ok.ensures) in
+    (
+      leb-false edge_limit _ (of_ok (λ r. nat_le edge_limit c.args.r.now.count ≡ false) (edge_room _ _ c.args.at _ _ _) read),
+      of_ok (λ r. r.channel < channel_limit) (channel_at _ _ c.args.at _ _ _) read,
+    )
 
-pub marked-channels-requires : goal.marked-channels-requires
-marked-channels-requires c = of_ok (λ r. r.channel < channel_limit) (channel_small _ _ _ _ _ _) c.in_ok-e.ensures
+pub add_edge-requires-then-not-full : goal.add_edge-requires-then-not-full
+add_edge-requires-then-not-full c =
+    let (_, read) = beside_err _ _ c.in-Err.ensures in
+    (c.if-not-full.true, rw (← read) (stopped_small _ _ _ _ _ _))
 
-pub bounds-r-n : goal.bounds-r-n
-bounds-r-n c =
-    leb-false edge_limit _
-    (of_ok (λ r. nat_le edge_limit c.args.r.now.count ≡ false) (edge_not_over _ _ _ _ _ _) c.in_ok-e.ensures)
+pub returns-in-Ok : goal.returns-in-Ok
+unfolding with_edge
+returns-in-Ok c = λ h init.
+    let r = head_so_far c.args.names.now h init c.args.r.now in
+    rw c.add_edge.ensures (edge_goes c.args.period _ c.args.at r (beside_ok _ _ c.in-Ok.ensures))
 
-pub offset_bounds-r-n : goal.offset_bounds-r-n
-offset_bounds-r-n c = omega (
-  arith,
-  leb-false edge_limit _
-      (of_ok (λ r. nat_le edge_limit c.args.r.now.count ≡ false) (edge_not_over _ _ _ _ _ _) c.in_ok-e.ensures),
-)
+pub returns-then-not-full : goal.returns-then-not-full
+unfolding with_edge
+returns-then-not-full c = λ h init.
+    let r = head_so_far c.args.names.now h init c.args.r.now in
+    let (none, read) = beside_err _ _ c.in-Err.ensures in
+    let room = lt-leb edge_limit c.args.r.now.count c.if-not-full.true in
+    rw c.add_edge-then-not-full.ensures (edge_stops c.args.period _ c.args.at r none read room)
 
-pub overflow_add-r : goal.overflow_add-r
-overflow_add-r c = omega (
-  arith,
-  leb-false edge_limit _
-      (of_ok (λ r. nat_le edge_limit c.args.r.now.count ≡ false) (edge_not_over _ _ _ _ _ _) c.in_ok-e.ensures),
-)
-
-pub returns : goal.returns
-unfolding edge_item with_edge
-returns c = λ h init. rw (← c.in_ok-e.ensures, c.marked-channels.ensures)
+pub returns-else-not-full : goal.returns-else-not-full
+returns-else-not-full c = λ h init.
+    let r = head_so_far c.args.names.now h init c.args.r.now in
+    let (none, _) = beside_err _ _ c.in-Err.ensures in
+    edge_full c.args.period _ c.args.at r none (le-leb edge_limit c.args.r.now.count c.if-not-full.false)
