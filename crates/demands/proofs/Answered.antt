@@ -5,7 +5,7 @@ use Rattle.std.proofs.Common.{sym, ap, subst, ◌∙◌, inl, inr, arith, ltb→
 use mathlib.Core.List.{List, ◌++◌}
 use Prim.Native.Nat.{ℕ, ◌*◌, ◌<◌}
 use Rattle.refusals.specs.declared.Refusal.{Refusal}
-use Rattle.refusals.specs.declared.Refusal.TheVariants.{KeepTooShort, TableTooShort, QueueTooShort, OtherTable, StartNotSafe, StartPairNotSet, RunTooShort}
+use Rattle.refusals.specs.Refusals.{keep_too_short, table_too_short, queue_too_short, other_table, start_not_safe, start_pair_not_set, run_too_short}
 use Rattle.systems.specs.Tests.{ones}
 use Rattle.systems.specs.Definitions.{Signature, System}
 use Rattle.systems.specs.Finite.{FiniteSystem, Capping, safe, safe_states, search_run, widest, cell}
@@ -66,10 +66,10 @@ module _ {A : Signature} {M N : System A} {L R : FiniteSystem A} (C : Capping M 
       go : (o : search.Outcome) (p q r s t : Bool) → ltb (length keep) (bytes_for L.size) ≡ p → ltb back pairs ≡ q
           → ltb line pairs ≡ r
           → safe L L.start ≡ s → ltb (length run) (length steps) ≡ t
-          → o ≡ cond p (search.refused (KeepTooShort (bytes_for L.size)) keep run)
-          (cond (q || r) (search.refused (QueueTooShort pairs) keep run)
-          (cond (not s) (search.refused (StartNotSafe L.start) kept run)
-          (cond t (search.refused (RunTooShort (length steps)) kept run) (search.found steps kept run))))
+          → o ≡ cond p (search.refused (keep_too_short (bytes_for L.size)) keep run)
+          (cond (q || r) (search.refused (queue_too_short pairs) keep run)
+          (cond (not s) (search.refused (start_not_safe L.start) kept run)
+          (cond t (search.refused (run_too_short (length steps)) kept run) (search.found steps kept run))))
           → SearchAnswers M N L.size R.size C.cap D.cap keep back line run o
       go o true q r s t ep eq er es et z = thirteen (less_when (length keep) (bytes_for L.size) ep) z
       go o false true r s t ep eq er es et z = fifteen (ltb-false (length keep) (bytes_for L.size) ep)
@@ -79,7 +79,7 @@ module _ {A : Signature} {M N : System A} {L R : FiniteSystem A} (C : Capping M 
       go o false false false false t ep eq er es et z = seventeen (ltb-false (length keep) (bytes_for L.size) ep)
           (ltb-false back pairs eq) (ltb-false line pairs er) (no_implementation es)
           (ap (λ (x : search.Outcome). x.answer) z
-          ∙ ap (λ (n : ℕ). Err (StartNotSafe n)) start_number)
+          ∙ ap (λ (n : ℕ). Err (start_not_safe n)) start_number)
           (ap (λ (x : search.Outcome). x.run) z)
           (written_in keep o.keep ep (ap (λ (x : search.Outcome). x.keep) z))
       go o false false false true true ep eq er es et z = twenty_one (ltb-false (length keep) (bytes_for L.size) ep)
@@ -116,16 +116,16 @@ module _ {A : Signature} {M N : System A} {L R : FiniteSystem A} (C : Capping M 
 
       go : (o : Widened) (p q s : Bool) → ltb (length keep) (bytes_for L.size) ≡ p → ltb (length given) needed ≡ q
           → safe L L.start ≡ s
-          → o ≡ cond p (widest_refused (KeepTooShort (bytes_for L.size)) keep given)
-          (cond q (widest_refused (TableTooShort needed) keep given)
-          (cond (not s) (widest_refused (StartNotSafe L.start) kept given) done))
+          → o ≡ cond p (widest_refused (keep_too_short (bytes_for L.size)) keep given)
+          (cond q (widest_refused (table_too_short needed) keep given)
+          (cond (not s) (widest_refused (start_not_safe L.start) kept given) done))
           → WidestAnswers M N L.size R.size C.cap D.cap keep given o
       go o true q s ep eq es z = WidestAnswers.thirteen (less_when (length keep) (bytes_for L.size) ep) z
       go o false true s ep eq es z = WidestAnswers.fourteen (ltb-false (length keep) (bytes_for L.size) ep)
           (less_when (length given) needed eq) z
       go o false false false ep eq es z = WidestAnswers.seventeen (ltb-false (length keep) (bytes_for L.size) ep)
           (ltb-false (length given) needed eq) (no_implementation es)
-          (ap (λ (x : Widened). x.answer) z ∙ ap (λ (n : ℕ). Err (StartNotSafe n)) start_number)
+          (ap (λ (x : Widened). x.answer) z ∙ ap (λ (n : ℕ). Err (start_not_safe n)) start_number)
           (ap (λ (x : Widened). x.table) z)
           (written_in keep o.keep ep (ap (λ (x : Widened). x.keep) z))
       go o false false true ep eq es z = WidestAnswers.written (ltb-false (length keep) (bytes_for L.size) ep)
@@ -165,10 +165,10 @@ module _ {A : Signature} {M N : System A} {L R : FiniteSystem A} (C : Capping M 
         go : (o : Checked) (p q s t : Bool) → ltb (length keep) (bytes_for L.size) ≡ p
             → fits R.size L.size given ≡ q → safe L L.start ≡ s
             → related L.start R.start ≡ t
-            → o ≡ cond p (check_refused (KeepTooShort (bytes_for L.size)) keep)
-            (cond (not q) (check_refused OtherTable keep)
-            (cond (not s) (check_refused (StartNotSafe L.start) kept)
-            (cond (not t) (check_refused (StartPairNotSet L.start R.start) kept)
+            → o ≡ cond p (check_refused (keep_too_short (bytes_for L.size)) keep)
+            (cond (not q) (check_refused other_table keep)
+            (cond (not s) (check_refused (start_not_safe L.start) kept)
+            (cond (not t) (check_refused (start_pair_not_set L.start R.start) kept)
             (record { answer = answer; keep = kept }))))
             → CheckAnswers M N L.size R.size C.cap D.cap keep given o
         go o true q s t ep eq es et z = CheckAnswers.thirteen (less_when (length keep) (bytes_for L.size) ep) z
@@ -176,14 +176,14 @@ module _ {A : Signature} {M N : System A} {L R : FiniteSystem A} (C : Capping M 
             (ltb-false (length keep) (bytes_for L.size) ep) (λ h. subst T eq h) z
         go o false true false t ep eq es et z = CheckAnswers.seventeen
             (ltb-false (length keep) (bytes_for L.size) ep) (subst T (sym eq) tt) (no_implementation es)
-            (ap (λ (x : Checked). x.answer) z ∙ ap (λ (n : ℕ). Err (StartNotSafe n)) start_number)
+            (ap (λ (x : Checked). x.answer) z ∙ ap (λ (n : ℕ). Err (start_not_safe n)) start_number)
             (written_in keep o.keep ep (ap (λ (x : Checked). x.keep) z))
         go o false true true false ep eq es et z = CheckAnswers.eighteen
             (ltb-false (length keep) (bytes_for L.size) ep) (subst T (sym eq) tt) (some_implementation es)
             (start_unset et)
             (ap (λ (x : Checked). x.answer) z
-            ∙ ap (λ (n : ℕ). Err (StartPairNotSet n R.start)) start_number
-            ∙ ap (λ (n : ℕ). Err (StartPairNotSet (C.cap M.start) n)) (sym D.starts))
+            ∙ ap (λ (n : ℕ). Err (start_pair_not_set n R.start)) start_number
+            ∙ ap (λ (n : ℕ). Err (start_pair_not_set (C.cap M.start) n)) (sym D.starts))
             (written_in keep o.keep ep (ap (λ (x : Checked). x.keep) z))
         go o false true true true ep eq es et z = told (lowest C D related R.size count)
           where

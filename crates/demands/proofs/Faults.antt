@@ -9,8 +9,7 @@ use Prim.Native.Nat.{ℕ, suc, ◌≤◌, ◌<◌}
 use native.Mathlib.Omega.{arith}
 use Rattle.std.proofs.Math.Dec.{T, T_not}
 use Rattle.refusals.specs.declared.Refusal.{Refusal}
-use Rattle.refusals.specs.declared.Refusal.TheVariants.{PairNotAllowed}
-use Rattle.refusals.specs.Refusals.{rule_broken}
+use Rattle.refusals.specs.Refusals.{pair_not_allowed, rule_broken}
 use Rattle.systems.specs.Bools.{T_dec, and_T, and_both, all_elim, all_intro, any_elim, any_intro, least_passes, imp_elim, imp_intro}
 use Rattle.systems.specs.Tests.{any}
 use Rattle.systems.specs.Definitions.{Signature, System, StepRules}
@@ -174,7 +173,7 @@ module _ {A : Signature} {M N : System A} {L R : FiniteSystem A} (C : Capping M 
   pub data Lowest (width count : ℕ) (answer : Result ℕ Refusal) : Type 0 where
     nineteen : (x : M.State) (y : N.State)
         → PairFails M N (SafeAt C) (Denoted C D X) C.cap D.cap x y
-        → answer ≡ Err (PairNotAllowed (C.cap x) (D.cap y)) → Lowest width count answer
+        → answer ≡ Err (pair_not_allowed (C.cap x) (D.cap y)) → Lowest width count answer
     twenty : (x : M.State) (y : N.State) (c : ℕ)
         → StepFails M N (SafeAt C) (Denoted C D X) C.cap D.cap x y c
         → answer ≡ Err (rule_broken width (step c) (C.cap x) (D.cap y)) → Lowest width count answer

@@ -8,7 +8,7 @@ use Rattle.std.proofs.Math.Dec.{ltb}
 use Rattle.std.proofs.Math.ListN.{length, take, drop, length-append, length-drop}
 use Rattle.std.proofs.Math.Seq.{drop_at}
 use Rattle.refusals.specs.declared.Refusal.{Refusal}
-use Rattle.refusals.specs.declared.Refusal.TheVariants.{KeepTooShort, QueueTooShort, StartNotSafe, RunTooShort}
+use Rattle.refusals.specs.Refusals.{keep_too_short, queue_too_short, start_not_safe, run_too_short}
 use Rattle.systems.specs.Bools.{T_true}
 use Rattle.systems.specs.Definitions.{Signature, System, Implementation, Satisfies, Makes, Allows, ShortestDeparture}
 use Rattle.systems.specs.Finite.{FiniteSystem, Capping, safe, safe_states, search_run}
@@ -38,12 +38,12 @@ record Passed (keep_short run_short : Bool) (o f : Outcome) : Type 0 where
   run_long : run_short ≡ false
 
 passed : (b c d e : Bool) (i j k : ℕ) (t : Refusal) (keep kept run : List ℕ) (f : Outcome) → d ≡ false
-    → LongEnough (cond b (refused (KeepTooShort i) keep run)
-    (cond c (refused (QueueTooShort j) keep run)
-    (cond d (refused t kept run) (cond e (refused (RunTooShort k) kept run) f)))).answer
-    → Passed b e (cond b (refused (KeepTooShort i) keep run)
-    (cond c (refused (QueueTooShort j) keep run)
-    (cond d (refused t kept run) (cond e (refused (RunTooShort k) kept run) f)))) f
+    → LongEnough (cond b (refused (keep_too_short i) keep run)
+    (cond c (refused (queue_too_short j) keep run)
+    (cond d (refused t kept run) (cond e (refused (run_too_short k) kept run) f)))).answer
+    → Passed b e (cond b (refused (keep_too_short i) keep run)
+    (cond c (refused (queue_too_short j) keep run)
+    (cond d (refused t kept run) (cond e (refused (run_too_short k) kept run) f)))) f
 passed true c d e i j k t keep kept run f z l = absurd (l.keep i refl)
 passed false true d e i j k t keep kept run f z l = absurd (l.queue j refl)
 passed false false true e i j k t keep kept run f z l = let y : ◌≡◌ {A = ℕ} 0 1 = cc in absurd (omega arith)
@@ -69,7 +69,7 @@ module _ {A : Signature} {M N : System A} {L R : FiniteSystem A} (C : Capping M 
       passed (ltb (length keep) (bytes_for L.size))
       (ltb back (L.size * R.size) || ltb line (L.size * R.size)) (not (safe L L.start))
       (ltb (length run) (length steps)) (bytes_for L.size) (L.size * R.size) (length steps)
-      (StartNotSafe L.start) keep kept_bytes run (found steps kept_bytes run)
+      (start_not_safe L.start) keep kept_bytes run (found steps kept_bytes run)
       (ap not (T_true (safe L L.start) start_safe)) l
 
   pub demand_3 : LongEnough (search_systems L R keep back line run).answer

@@ -3,7 +3,7 @@ use Rattle.std.specs.Prelude.{◌≡◌, refl, ◌↔◌, Bool, true, false, con
 use Rattle.std.proofs.Common.{sym, ap, subst, arith, ltb-false}
 use Rattle.std.proofs.Math.Bool.{not}
 use Rattle.refusals.specs.declared.Refusal.{Refusal}
-use Rattle.refusals.specs.declared.Refusal.TheVariants.{KeepTooShort, TableTooShort, StartNotSafe}
+use Rattle.refusals.specs.Refusals.{keep_too_short, table_too_short, start_not_safe}
 use Rattle.systems.specs.Bools.{T_true}
 use Rattle.systems.specs.Tests.{ones}
 use Rattle.systems.specs.Definitions.{Signature, System}
@@ -26,10 +26,10 @@ record MadeTable (keep_short table_short : Bool) (o f : Widened) : Type 0 where
   table_long : table_short ≡ false
 
 widest_passed : (b c d : Bool) (i j : ℕ) (t : Refusal) (keep kept given : List ℕ) (f : Widened) → d ≡ false
-    → LongEnough (cond b (widest_refused (KeepTooShort i) keep given)
-    (cond c (widest_refused (TableTooShort j) keep given) (cond d (widest_refused t kept given) f))).answer
-    → MadeTable b c (cond b (widest_refused (KeepTooShort i) keep given)
-    (cond c (widest_refused (TableTooShort j) keep given) (cond d (widest_refused t kept given) f))) f
+    → LongEnough (cond b (widest_refused (keep_too_short i) keep given)
+    (cond c (widest_refused (table_too_short j) keep given) (cond d (widest_refused t kept given) f))).answer
+    → MadeTable b c (cond b (widest_refused (keep_too_short i) keep given)
+    (cond c (widest_refused (table_too_short j) keep given) (cond d (widest_refused t kept given) f))) f
 widest_passed true c d i j t keep kept given f k l = absurd (l.keep i refl)
 widest_passed false true d i j t keep kept given f k l = absurd (l.table j refl)
 widest_passed false false true i j t keep kept given f k l = let y : ◌≡◌ {A = ℕ} 0 1 = cc in absurd (omega arith)
@@ -60,7 +60,7 @@ module _ {A : Signature} {M N : System A} {L R : FiniteSystem A} (C : Capping M 
   unfolding widest_systems
   made_is l =
       widest_passed (ltb (length keep) (bytes_for L.size)) (ltb (length given) (table_bytes R.size L.size))
-      (not (safe L L.start)) (bytes_for L.size) (table_bytes R.size L.size) (StartNotSafe L.start) keep
+      (not (safe L L.start)) (bytes_for L.size) (table_bytes R.size L.size) (start_not_safe L.start) keep
       kept_bytes given widest_made (ap not (T_true (safe L L.start) start_safe)) l
 
   file_widest : table_bytes R.size L.size ≤ length given → (x : M.State) (y : N.State)

@@ -2,8 +2,7 @@
 -- left, and N, the right, of one signature: the answers in the order of judging, each with what it means
 -- (SPECIFICATION 13.1, 13.3, 13.5). Definitions only.
 use Rattle.std.specs.Prelude.{◌≡◌, ◌⊎◌, Bool, List, ℕ, ◌*◌, ◌≤◌, ◌<◌, length, Ok, Err}
-use Rattle.refusals.specs.declared.Refusal.TheVariants.{KeepTooShort, TableTooShort, QueueTooShort, OtherTable, StartNotSafe, StartPairNotSet, PairNotAllowed, RunTooShort}
-use Rattle.refusals.specs.Refusals.{rule_broken}
+use Rattle.refusals.specs.Refusals.{keep_too_short, table_too_short, queue_too_short, other_table, start_not_safe, start_pair_not_set, pair_not_allowed, rule_broken, run_too_short}
 use Rattle.systems.specs.Tests.{ones}
 use Rattle.systems.specs.Definitions.{Signature, System, LargestSafeSet, ShortestDeparture}
 use Rattle.bitmaps.specs.Packed.{bytes_for}
@@ -21,17 +20,17 @@ module _ {A : Signature} (M N : System A) (states right_states : ℕ) (number : 
   pub data SearchAnswers (keep : List ℕ) (back line : ℕ) (run : List ℕ) (o : search.Outcome) : Type 1 where
     -- 13: keep has less than a bit for each left state; everything lent is as it came
     thirteen : length keep < bytes_for states
-        → o ≡ record { answer = Err (KeepTooShort (bytes_for states)); keep = keep; run = run }
+        → o ≡ record { answer = Err (keep_too_short (bytes_for states)); keep = keep; run = run }
         → SearchAnswers keep back line run o
     -- 15: back or line has fewer entries than there are pairs; everything lent is as it came
     fifteen : bytes_for states ≤ length keep
         → (back < states * right_states) ⊎ (line < states * right_states)
-        → o ≡ record { answer = Err (QueueTooShort (states * right_states)); keep = keep; run = run }
+        → o ≡ record { answer = Err (queue_too_short (states * right_states)); keep = keep; run = run }
         → SearchAnswers keep back line run o
     -- 17: no implementation satisfies the left, so its start is not safe (SPECIFICATION 8.3); the run is as it came
     seventeen : bytes_for states ≤ length keep → states * right_states ≤ back → states * right_states ≤ line
         → (Consistent M → ⊥)
-        → o.answer ≡ Err (StartNotSafe (number M.start))
+        → o.answer ≡ Err (start_not_safe (number M.start))
         → o.run ≡ run
         → KeepWritten M states number keep o.keep
         → SearchAnswers keep back line run o
@@ -39,7 +38,7 @@ module _ {A : Signature} (M N : System A) (states right_states : ℕ) (number : 
     twenty_one : bytes_for states ≤ length keep → states * right_states ≤ back → states * right_states ≤ line
         → Consistent M → (w : List ℕ) → length run < length w
         → ((S : M.State → Type 0) → LargestSafeSet M S → ShortestDeparture M N S w)
-        → o.answer ≡ Err (RunTooShort (length w)) → o.run ≡ run
+        → o.answer ≡ Err (run_too_short (length w)) → o.run ≡ run
         → KeepWritten M states number keep o.keep
         → SearchAnswers keep back line run o
     -- n: what it means is SPECIFICATION 17.3 (Demands.antt)
@@ -56,21 +55,21 @@ module _ {A : Signature} (M N : System A) (states right_states : ℕ) (number : 
     pub data CheckAnswers (o : Checked) : Type 1 where
       -- 13: keep has less than a bit for each left state, and is as it came
       thirteen : length keep < bytes_for states
-          → o ≡ record { answer = Err (KeepTooShort (bytes_for states)); keep = keep }
+          → o ≡ record { answer = Err (keep_too_short (bytes_for states)); keep = keep }
           → CheckAnswers o
       -- 16: the table does not have the right form (SPECIFICATION 11.1, 11.2); keep is as it came
       sixteen : bytes_for states ≤ length keep → (RightForm states right_states given → ⊥)
-          → o ≡ record { answer = Err OtherTable; keep = keep }
+          → o ≡ record { answer = Err other_table; keep = keep }
           → CheckAnswers o
       -- 17: no implementation satisfies the left, so its start is not safe (SPECIFICATION 8.3)
       seventeen : bytes_for states ≤ length keep → RightForm states right_states given → (Consistent M → ⊥)
-          → o.answer ≡ Err (StartNotSafe (number M.start))
+          → o.answer ≡ Err (start_not_safe (number M.start))
           → KeepWritten M states number keep o.keep
           → CheckAnswers o
       -- 18: the table does not have the pair of starts
       eighteen : bytes_for states ≤ length keep → RightForm states right_states given → Consistent M
           → (Given M.start N.start → ⊥)
-          → o.answer ≡ Err (StartPairNotSet (number M.start) (right_number N.start))
+          → o.answer ≡ Err (start_pair_not_set (number M.start) (right_number N.start))
           → KeepWritten M states number keep o.keep
           → CheckAnswers o
       -- 19: (x, y) is the lowest pair that fails, for its states (SPECIFICATION 11.5); S: the left's safe states
@@ -78,7 +77,7 @@ module _ {A : Signature} (M N : System A) (states right_states : ℕ) (number : 
           → Given M.start N.start
           → (x : M.State) (y : N.State)
           → ((S : M.State → Type 0) → LargestSafeSet M S → PairFails M N S Given number right_number x y)
-          → o.answer ≡ Err (PairNotAllowed (number x) (right_number y))
+          → o.answer ≡ Err (pair_not_allowed (number x) (right_number y))
           → KeepWritten M states number keep o.keep
           → CheckAnswers o
       -- 20: (x, y) is the lowest pair that fails, for a rule, and c the least step (SPECIFICATION 11.5)
@@ -103,13 +102,13 @@ module _ {A : Signature} (M N : System A) (states right_states : ℕ) (number : 
   pub data WidestAnswers (keep given : List ℕ) (o : Widened) : Type 1 where
     -- 13: keep has less than a bit for each left state; everything lent is as it came
     thirteen : length keep < bytes_for states
-        → o ≡ record { answer = Err (KeepTooShort (bytes_for states)); keep = keep; table = given }
+        → o ≡ record { answer = Err (keep_too_short (bytes_for states)); keep = keep; table = given }
         → WidestAnswers keep given o
     -- 14: the slice for the table is shorter than the table; everything lent is as it came
     fourteen : bytes_for states ≤ length keep → length given < table_bytes right_states states
         → o
         ≡ record {
-          answer = Err (TableTooShort (table_bytes right_states states));
+          answer = Err (table_too_short (table_bytes right_states states));
           keep = keep;
           table = given;
         }
@@ -117,7 +116,7 @@ module _ {A : Signature} (M N : System A) (states right_states : ℕ) (number : 
     -- 17: no implementation satisfies the left, so its start is not safe (SPECIFICATION 8.3); the table is as it came
     seventeen : bytes_for states ≤ length keep → table_bytes right_states states ≤ length given
         → (Consistent M → ⊥)
-        → o.answer ≡ Err (StartNotSafe (number M.start)) → o.table ≡ given
+        → o.answer ≡ Err (start_not_safe (number M.start)) → o.table ≡ given
         → KeepWritten M states number keep o.keep
         → WidestAnswers keep given o
     -- the count and whether the start pair is one: what they mean is SPECIFICATION 17.2 (Demands.antt)

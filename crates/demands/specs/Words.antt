@@ -2,7 +2,7 @@
 -- `number` gives each configuration's. Definitions only (SPECIFICATION 8.2, 8.4, 9.4, 11.1 to 11.5, 12.8).
 use Rattle.std.specs.Prelude.{◌≡◌, ◌↔◌, ◌⊎◌, false, List, ℕ, ◌*◌, ◌≤◌, ◌<◌, T, length, drop, Result, Err}
 use Rattle.refusals.specs.declared.Refusal.{Refusal}
-use Rattle.refusals.specs.declared.Refusal.TheVariants.{KeepTooShort, TableTooShort, QueueTooShort, RunTooShort}
+use Rattle.refusals.specs.Refusals.{keep_too_short, table_too_short, queue_too_short, run_too_short}
 use Rattle.systems.specs.Definitions.{Signature, System, Implementation, Satisfies, LargestSafeSet, StepRules}
 use Rattle.bitmaps.specs.Bits.{bit_at}
 use Rattle.bitmaps.specs.Packed.{bytes_for}
@@ -19,10 +19,10 @@ Without kind answer = (p : ℕ) → answer ≡ Err (kind p) → ⊥
 
 -- slices that are long enough: no refusal asks for a longer one (SPECIFICATION 12.8)
 pub record LongEnough {A : Type 0} (answer : Result A Refusal) : Type 0 where
-  pub keep : Without KeepTooShort answer
-  pub table : Without TableTooShort answer
-  pub queue : Without QueueTooShort answer
-  pub run : Without RunTooShort answer
+  pub keep : Without keep_too_short answer
+  pub table : Without table_too_short answer
+  pub queue : Without queue_too_short answer
+  pub run : Without run_too_short answer
 
 -- what keep is to hold (SPECIFICATION 8.4): the bit of a configuration's state says whether it is in S, the safe
 -- states; spare bits are 0, and later bytes are as they were

@@ -12,9 +12,9 @@ use Rattle.limits.specs.Laws.{allowed_length, length_allowed}
 use Rattle.refusals.specs.declared.File.{File}
 use Rattle.refusals.specs.declared.File.TheVariants.{Left, Right}
 use Rattle.refusals.specs.declared.Refusal.{Refusal}
-use Rattle.refusals.specs.declared.Refusal.TheVariants.{TextTooLong, UnmatchedChannel, KeepTooShort, TableTooShort, QueueTooShort, OtherTable, StartNotSafe, StartPairNotSet, PairNotAllowed, RunTooShort, TickOutOfRange, LimitExceeded, OutTooShort}
+use Rattle.refusals.specs.declared.Refusal.TheVariants.{TextTooLong, UnmatchedChannel}
 use Rattle.refusals.specs.declared.Refusal.TheVariants as refusal
-use Rattle.refusals.specs.Refusals.{code, in_file, rule_broken}
+use Rattle.refusals.specs.Refusals.{code, in_file, keep_too_short, table_too_short, queue_too_short, other_table, start_not_safe, start_pair_not_set, pair_not_allowed, rule_broken, run_too_short, tick_out_of_range, limit_exceeded, out_too_short}
 use Rattle.refusals.specs.Answers.{answer_of}
 use Rattle.systems.specs.Bools.{none_some}
 use Rattle.systems.specs.Definitions.{Signature}
@@ -60,18 +60,18 @@ ticks_promised = record {
 
 -- a tick length that is not allowed
 module _ (period : ℕ) (not_allowed : tick_allowed period ≡ false) where
-  parsed_refused : (s : List ℕ) → reader.read_text period s ≡ Err (TickOutOfRange period)
+  parsed_refused : (s : List ℕ) → reader.read_text period s ≡ Err (tick_out_of_range period)
   unfolding reader.read_text
   parsed_refused s = rw not_allowed
 
-  read_refused : (s : List ℕ) → read_outcome period s ≡ Err (TickOutOfRange period)
+  read_refused : (s : List ℕ) → read_outcome period s ≡ Err (tick_out_of_range period)
   unfolding read_outcome parsed_reading
   read_refused s = ap parsed_reading (parsed_refused s)
 
   nothing_read : (s : List ℕ) → NothingRead (read_outcome period s)
   nothing_read s = rw (read_refused s) (refl, refl)
 
-  two_refused : (left right : List ℕ) → two_judged period left right ≡ some (TickOutOfRange period)
+  two_refused : (left right : List ℕ) → two_judged period left right ≡ some (tick_out_of_range period)
   unfolding two_judged texts_judged tick_judged or_else
   two_refused left right = rw not_allowed
 
@@ -97,9 +97,9 @@ last = 23
 Earlier : {A : Type 0} → Result A Refusal → Type 0
 Earlier answer = (r : Refusal) → answer ≡ Err r → code r ≤ last
 
-without_tick : {A : Type 0} (answer : Result A Refusal) → Earlier answer → Without TickOutOfRange answer
+without_tick : {A : Type 0} (answer : Result A Refusal) → Earlier answer → Without tick_out_of_range answer
 unfolding Earlier
-without_tick answer h p e = omega (arith, h (TickOutOfRange p) e)
+without_tick answer h p e = omega (arith, h (tick_out_of_range p) e)
 
 earlier_ok : {A : Type 0} (a : A) → Earlier (Ok a)
 unfolding Earlier
@@ -139,20 +139,20 @@ same_code file (refusal.TooManyStates _ states) = refl
 same_code file (refusal.InputWithoutMove _ state channel) = refl
 same_code file (refusal.TwoEdges _ state channel) = refl
 same_code file (refusal.UnmatchedChannel _ channel) = refl
-same_code file (refusal.KeepTooShort bytes) = refl
-same_code file (refusal.TableTooShort bytes) = refl
-same_code file (refusal.QueueTooShort entries) = refl
-same_code file refusal.OtherTable = refl
-same_code file (refusal.StartNotSafe start) = refl
-same_code file (refusal.StartPairNotSet s t) = refl
-same_code file (refusal.PairNotAllowed s t) = refl
-same_code file (refusal.RuleBroken step pair) = refl
-same_code file (refusal.RunTooShort steps) = refl
+same_code file (refusal.KeepTooShort _ bytes) = refl
+same_code file (refusal.TableTooShort _ bytes) = refl
+same_code file (refusal.QueueTooShort _ entries) = refl
+same_code file (refusal.OtherTable _) = refl
+same_code file (refusal.StartNotSafe _ start) = refl
+same_code file (refusal.StartPairNotSet _ s t) = refl
+same_code file (refusal.PairNotAllowed _ s t) = refl
+same_code file (refusal.RuleBroken _ step pair) = refl
+same_code file (refusal.RunTooShort _ steps) = refl
 same_code file (refusal.OutputBesideTick _ state channel) = refl
 same_code file (refusal.NeitherPossible _ state) = refl
-same_code file (refusal.TickOutOfRange period) = refl
-same_code file refusal.LimitExceeded = refl
-same_code file (refusal.OutTooShort bytes) = refl
+same_code file (refusal.TickOutOfRange _ period) = refl
+same_code file (refusal.LimitExceeded _) = refl
+same_code file (refusal.OutTooShort _ bytes) = refl
 
 -- the judgement that comes first
 or_earlier : (a b : Option Refusal) → EarlierFound a → EarlierFound b → EarlierFound (or_else a b)
@@ -184,7 +184,7 @@ module _ (period : ℕ) (allowed : tick_allowed period ≡ true) where
   kept_earlier t keep = go (ltb (length keep) (bytes_for (state_count t))) refl
     where
       go : (b : Bool) → ltb (length keep) (bytes_for (state_count t)) ≡ b → Earlier (kept_outcome t keep).answer
-      go true e = rw (e, kept_outcome) (earlier_err _ (KeepTooShort (bytes_for (state_count t))) (omega arith))
+      go true e = rw (e, kept_outcome) (earlier_err _ (keep_too_short (bytes_for (state_count t))) (omega arith))
       go false e = rw (e, kept_outcome) (earlier_ok _)
 
   safe_passed : (s keep : List ℕ) → Earlier (safe_outcome period s keep).answer
@@ -259,12 +259,12 @@ module _ (period : ℕ) (allowed : tick_allowed period ≡ true) where
     unfolding search_systems
     searched back line run =
         either P (ltb (length keep) (bytes_for L.size))
-        (earlier_err _ (KeepTooShort (bytes_for L.size)) (omega arith))
+        (earlier_err _ (keep_too_short (bytes_for L.size)) (omega arith))
         (either P (ltb back (L.size * R.size) || ltb line (L.size * R.size))
-        (earlier_err _ (QueueTooShort (L.size * R.size)) (omega arith))
-        (either P (not (finite.safe L L.start)) (earlier_err _ (StartNotSafe L.start) (omega arith))
+        (earlier_err _ (queue_too_short (L.size * R.size)) (omega arith))
+        (either P (not (finite.safe L L.start)) (earlier_err _ (start_not_safe L.start) (omega arith))
         (either P (ltb (length run) (length (finite.search_run L R)))
-        (earlier_err _ (RunTooShort (length (finite.search_run L R))) (omega arith)) (earlier_ok _))))
+        (earlier_err _ (run_too_short (length (finite.search_run L R))) (omega arith)) (earlier_ok _))))
       where
         P : search.Outcome → Type 0
         P o = Earlier o.answer
@@ -272,18 +272,18 @@ module _ (period : ℕ) (allowed : tick_allowed period ≡ true) where
     scanned_earlier : (width count : ℕ) (f : Result ⊤ FailedPair) → Earlier (scanned width count f)
     unfolding scanned
     scanned_earlier width count (Ok passed) = earlier_ok count
-    scanned_earlier width count (Err (NotAllowedAt s t)) = earlier_err _ (PairNotAllowed s t) (omega arith)
+    scanned_earlier width count (Err (NotAllowedAt s t)) = earlier_err _ (pair_not_allowed s t) (omega arith)
     scanned_earlier width count (Err (BrokenAt step s t)) = earlier_err _ (rule_broken width step s t) (omega arith)
 
     checked_earlier : (table : List ℕ) → Earlier (check_systems L R keep table).answer
     unfolding check_systems
     checked_earlier table =
         either P (ltb (length keep) (bytes_for L.size))
-        (earlier_err _ (KeepTooShort (bytes_for L.size)) (omega arith))
-        (either P (not (fits R.size L.size table)) (earlier_err _ OtherTable (omega arith))
-        (either P (not (finite.safe L L.start)) (earlier_err _ (StartNotSafe L.start) (omega arith))
+        (earlier_err _ (keep_too_short (bytes_for L.size)) (omega arith))
+        (either P (not (fits R.size L.size table)) (earlier_err _ other_table (omega arith))
+        (either P (not (finite.safe L L.start)) (earlier_err _ (start_not_safe L.start) (omega arith))
         (either P (not (set_at R.size (drop (header_bytes R.size L.size) table) L.start R.start))
-        (earlier_err _ (StartPairNotSet L.start R.start) (omega arith)) (scanned_earlier _ _ _))))
+        (earlier_err _ (start_pair_not_set L.start R.start) (omega arith)) (scanned_earlier _ _ _))))
       where
         P : Checked → Type 0
         P o = Earlier o.answer
@@ -292,11 +292,11 @@ module _ (period : ℕ) (allowed : tick_allowed period ≡ true) where
     unfolding widest_systems
     widened_earlier table =
         either P (ltb (length keep) (bytes_for L.size))
-        (earlier_err _ (KeepTooShort (bytes_for L.size)) (omega arith))
+        (earlier_err _ (keep_too_short (bytes_for L.size)) (omega arith))
         (either P (ltb (length table) (table_bytes R.size L.size))
-        (earlier_err _ (TableTooShort (table_bytes R.size L.size)) (omega arith))
+        (earlier_err _ (table_too_short (table_bytes R.size L.size)) (omega arith))
         (either P (not (finite.safe L L.start))
-        (earlier_err _ (StartNotSafe L.start) (omega arith)) (earlier_ok _)))
+        (earlier_err _ (start_not_safe L.start) (omega arith)) (earlier_ok _)))
       where
         P : Widened → Type 0
         P o = Earlier o.answer
@@ -329,28 +329,29 @@ module _ (period : ℕ) (allowed : tick_allowed period ≡ true) where
         (right_system period (compared period left right e)) keep table)
 
   -- 25 and 26 are none of these, but not 24 either
-  other_code : {A : Type 0} (f : Refusal) → (code f ≡ code (TickOutOfRange 0) → ⊥) → Without {A = A} TickOutOfRange (Err f)
+  other_code : {A : Type 0} (f : Refusal) → (code f ≡ code (tick_out_of_range 0) → ⊥)
+      → Without {A = A} tick_out_of_range (Err f)
   other_code f h p e =
-      let z : f ≡ TickOutOfRange p = cc in
+      let z : f ≡ tick_out_of_range p = cc in
       h (ap code z)
 
   record_passed : (t : Text) (z out : List ℕ)
-      → Without TickOutOfRange (record_outcome t z out).answer
+      → Without tick_out_of_range (record_outcome t z out).answer
   unfolding record_outcome laid_text joining.refused
   record_passed t z out =
       either P (within_limits t z)
-      (either P (ltb (length out) (length z)) (other_code (OutTooShort (length z)) (λ e. omega arith))
+      (either P (ltb (length out) (length z)) (other_code (out_too_short (length z)) (λ e. omega arith))
       (without_tick (Ok (length z)) (earlier_ok (length z))))
-      (other_code LimitExceeded (λ e. omega arith))
+      (other_code limit_exceeded (λ e. omega arith))
     where
       P : joining.Outcome → Type 0
-      P o = Without TickOutOfRange o.answer
+      P o = Without tick_out_of_range o.answer
 
   join_passed : (left right out : List ℕ)
-      → Without TickOutOfRange (join_outcome period left right out).answer
+      → Without tick_out_of_range (join_outcome period left right out).answer
   unfolding join_outcome joining.refused
   join_passed left right out =
-      by_judged (λ (o : joining.Outcome). Without TickOutOfRange o.answer)
+      by_judged (λ (o : joining.Outcome). Without tick_out_of_range o.answer)
       (two_judged period left right) _ _ (judged_earlier left right)
       (λ f h. without_tick (Err f) (earlier_err _ f h))
       (λ e. record_passed (joined_record period left right) (joined_bytes period left right) out)
@@ -368,16 +369,16 @@ module _ (period : ℕ) (allowed : tick_allowed period ≡ true) where
 
 -- codes 24 and 1 to 12 of two texts are 24 or lower
 pub two_codes : (period : ℕ) (left right : List ℕ) (r : Refusal) → two_judged period left right ≡ some r
-    → code r ≤ code (TickOutOfRange period)
+    → code r ≤ code (tick_out_of_range period)
 unfolding EarlierFound
 two_codes period left right r e = go (tick_allowed period) refl
   where
-    go : (b : Bool) → tick_allowed period ≡ b → code r ≤ code (TickOutOfRange period)
+    go : (b : Bool) → tick_allowed period ≡ b → code r ≤ code (tick_out_of_range period)
     go true h = omega (arith, judged_earlier period h left right r e)
     go false h =
-        let z : some (TickOutOfRange period) ≡ some r = sym (two_refused period h left right) ∙ e in
-        let q : TickOutOfRange period ≡ r = cc in
-        let k : code (TickOutOfRange period) ≡ code r = ap code q in
+        let z : some (tick_out_of_range period) ≡ some r = sym (two_refused period h left right) ∙ e in
+        let q : tick_out_of_range period ≡ r = cc in
+        let k : code (tick_out_of_range period) ≡ code r = ap code q in
         omega (arith, k)
 
 pub length_promised : (period : ℕ) → LengthDemand period

@@ -7,9 +7,8 @@ use Rattle.std.proofs.Math.ListN.{length}
 use Rattle.std.proofs.Math.Seq.{take-append_seam}
 use Rattle.limits.specs.Limits.{shortest_tick, largest_text, state_limit}
 use Rattle.refusals.specs.declared.Refusal.{Refusal}
-use Rattle.refusals.specs.declared.Refusal.TheVariants.{LimitExceeded, OutTooShort}
 use Rattle.refusals.specs.Refusals as numbers
-use Rattle.refusals.specs.Refusals.{code}
+use Rattle.refusals.specs.Refusals.{code, limit_exceeded, out_too_short}
 use Rattle.refusals.specs.Answers.{answer_of}
 use Rattle.systems.specs.Bools.{none_some, and_T, and_both}
 use Rattle.reader_record.specs.declared.Text.{Text}
@@ -51,9 +50,9 @@ test_within t z h =
 -- how joining ends, for a joined record t and its text z: `found` is what codes 24 and 1 to 12 find
 data Ends (found : Option Refusal) (t : Text) (z out : List ℕ) : Outcome → Type 0 where
   refuses : (r : Refusal) → found ≡ some r → Ends found t z out (refused r out)
-  passes : none ≡ found → (Within t z → ⊥) → Ends found t z out (refused LimitExceeded out)
+  passes : none ≡ found → (Within t z → ⊥) → Ends found t z out (refused limit_exceeded out)
   lacks : none ≡ found → Within t z → length out < length z
-      → Ends found t z out (refused (OutTooShort (length z)) out)
+      → Ends found t z out (refused (out_too_short (length z)) out)
   writes : none ≡ found → Within t z → length z ≤ length out
       → Ends found t z out (record { answer = Ok (length z); out = z ++ drop (length z) out })
 
@@ -63,8 +62,8 @@ unfolding record_outcome laid_text
 record_ends found t z out e = go (within_limits t z) refl (ltb (length out) (length z)) refl
   where
     go : (b : Bool) → within_limits t z ≡ b → (s : Bool) → ltb (length out) (length z) ≡ s
-        → Ends found t z out (cond b (cond s (refused (OutTooShort (length z)) out)
-        (record { answer = Ok (length z); out = z ++ drop (length z) out })) (refused LimitExceeded out))
+        → Ends found t z out (cond b (cond s (refused (out_too_short (length z)) out)
+        (record { answer = Ok (length z); out = z ++ drop (length z) out })) (refused limit_exceeded out))
     go false d s h = passes e (λ w. subst T d (within_test t z w))
     go true d true h = lacks e (test_within t z (subst T (sym d) tt)) (ltb-true (length out) (length z) h)
     go true d false h = writes e (test_within t z (subst T (sym d) tt)) (ltb-false (length out) (length z) h)
@@ -131,7 +130,7 @@ same_code r s e = let z : r ≡ s = cc in ap code z
 
 module _ (period : ℕ) (left right out : List ℕ) where
   -- codes 24 and 1 to 12 come before 25
-  early : (r : Refusal) → two_judged period left right ≡ some r → code r < code LimitExceeded
+  early : (r : Refusal) → two_judged period left right ≡ some r → code r < code limit_exceeded
   early r e = omega (arith, two_codes period left right r e)
 
   abbrev z : List ℕ
@@ -141,11 +140,11 @@ module _ (period : ℕ) (left right out : List ℕ) where
   unfolding refused
   by_code r e = record {
     limit = (
-      λ h. absurd (omega (arith, early r e, same_code r LimitExceeded h)),
+      λ h. absurd (omega (arith, early r e, same_code r limit_exceeded h)),
       λ (n, w). none_some r (n ∙ e),
     );
     short = λ n. (
-      λ h. absurd (omega (arith, early r e, same_code r (OutTooShort n) h)),
+      λ h. absurd (omega (arith, early r e, same_code r (out_too_short n) h)),
       λ (j, m, l). none_some r (j.judged ∙ e),
     );
     long = λ n. (λ h. absurd (never_written r n h), λ (j, m, l). none_some r (j.judged ∙ e));
@@ -155,38 +154,38 @@ module _ (period : ℕ) (left right out : List ℕ) where
   }
 
   by_limit : none ≡ two_judged period left right → (Within (joined_record period left right) z → ⊥)
-      → JoinDemand period left right out (refused LimitExceeded out)
+      → JoinDemand period left right out (refused limit_exceeded out)
   unfolding refused
   by_limit e w = record {
     limit = (λ h. (e, w), λ h. refl);
     short = λ n. (
-      λ h. absurd (omega (arith, same_code LimitExceeded (OutTooShort n) h)),
+      λ h. absurd (omega (arith, same_code limit_exceeded (out_too_short n) h)),
       λ (j, m, l). absurd (w j.within),
     );
-    long = λ n. (λ h. absurd (never_written LimitExceeded n h), λ (j, m, l). absurd (w j.within));
-    text = λ n h. absurd (never_written LimitExceeded n h);
-    joins = λ n h. absurd (never_written LimitExceeded n h);
+    long = λ n. (λ h. absurd (never_written limit_exceeded n h), λ (j, m, l). absurd (w j.within));
+    text = λ n h. absurd (never_written limit_exceeded n h);
+    joins = λ n h. absurd (never_written limit_exceeded n h);
     untouched = λ h. refl;
   }
 
   by_length : none ≡ two_judged period left right → Within (joined_record period left right) z
-      → length out < length z → JoinDemand period left right out (refused (OutTooShort (length z)) out)
+      → length out < length z → JoinDemand period left right out (refused (out_too_short (length z)) out)
   unfolding refused
   by_length e w l = record {
     limit = (
-      λ h. absurd (omega (arith, same_code (OutTooShort (length z)) LimitExceeded h)),
+      λ h. absurd (omega (arith, same_code (out_too_short (length z)) limit_exceeded h)),
       λ (n, v). absurd (v w),
     );
     short = λ n. (
       λ h.
-          let k : OutTooShort (length z) ≡ OutTooShort n = cc in
+          let k : out_too_short (length z) ≡ out_too_short n = cc in
           let m : length z ≡ n = ap numbers.p k in
           (record { judged = e; within = w }, sym m, omega arith),
       λ (j, m, k). rw m,
     );
-    long = λ n. (λ h. absurd (never_written (OutTooShort (length z)) n h), λ (j, m, k). absurd (omega arith));
-    text = λ n h. absurd (never_written (OutTooShort (length z)) n h);
-    joins = λ n h. absurd (never_written (OutTooShort (length z)) n h);
+    long = λ n. (λ h. absurd (never_written (out_too_short (length z)) n h), λ (j, m, k). absurd (omega arith));
+    text = λ n h. absurd (never_written (out_too_short (length z)) n h);
+    joins = λ n h. absurd (never_written (out_too_short (length z)) n h);
     untouched = λ h. refl;
   }
 
@@ -194,8 +193,8 @@ module _ (period : ℕ) (left right out : List ℕ) where
       → length z ≤ length out
       → JoinDemand period left right out (record { answer = Ok (length z); out = z ++ drop (length z) out })
   by_text e w l = record {
-    limit = (λ h. absurd (never_written LimitExceeded (length z) (sym h)), λ (n, v). absurd (v w));
-    short = λ n. (λ h. absurd (never_written (OutTooShort n) (length z) (sym h)), λ (j, m, k). absurd (omega arith));
+    limit = (λ h. absurd (never_written limit_exceeded (length z) (sym h)), λ (n, v). absurd (v w));
+    short = λ n. (λ h. absurd (never_written (out_too_short n) (length z) (sym h)), λ (j, m, k). absurd (omega arith));
     long = λ n. (
       λ h.
           let m : length z ≡ n = cc in

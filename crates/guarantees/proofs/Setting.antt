@@ -10,7 +10,7 @@ use Rattle.reader_record.specs.Formed.{WellFormed}
 use Rattle.reader_record.specs.declared.Text.{Text}
 use Rattle.reader_parts.specs.declared.Fault.TheVariants.{TooLong}
 use Rattle.refusals.specs.declared.Refusal.{Refusal}
-use Rattle.refusals.specs.declared.Refusal.TheVariants.{TickOutOfRange}
+use Rattle.refusals.specs.Refusals.{tick_out_of_range}
 use Rattle.refusals.specs.Answers.{answer_of}
 use Rattle.reader.specs.Faults.{refusal_of}
 use Rattle.reader.specs.Reading as reader
@@ -48,7 +48,8 @@ module _ (period : ℕ) where
   judged_first s a = go (tick_allowed period) (nat_lt largest_text (length s)) _ (read_accepted period s a).parsed
     where
       go : (b c : Bool) (r : Result Text Refusal)
-          → answer_of (if b then (if c then Err (refusal_of TooLong) else r) else Err (TickOutOfRange period)) ≡ Ok tt
+          → answer_of (if b then (if c then Err (refusal_of TooLong) else r) else Err (tick_out_of_range period))
+          ≡ Ok tt
           → (b ≡ true) × (c ≡ false)
       go true true r e = let z : ◌≡◌ {A = ℕ} 0 1 = cc in absurd (omega arith)
       go true false r e = (refl, refl)

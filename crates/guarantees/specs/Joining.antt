@@ -3,7 +3,7 @@
 use Rattle.std.specs.Prelude.{◌≡◌, ◌↔◌, List, ◌++◌, ℕ, ◌≤◌, ◌<◌, length, take, drop, Ok, Err}
 use Rattle.std.proofs.Math.Option.{none}
 use Rattle.limits.specs.Limits.{shortest_tick, largest_text, state_limit}
-use Rattle.refusals.specs.declared.Refusal.TheVariants.{LimitExceeded, OutTooShort}
+use Rattle.refusals.specs.Refusals.{limit_exceeded, out_too_short}
 use Rattle.systems.specs.Definitions.{Implementation, Satisfies}
 use Rattle.conjunction.specs.Definitions.{SameSignature}
 use Rattle.conjunction.proofs.Conjunction.{carried}
@@ -43,10 +43,10 @@ module _ (period : ℕ) (left right : List ℕ) where
   -- the outcome o of joining them, with the slice `out`
   pub record JoinDemand (out : List ℕ) (o : Outcome) : Type 1 where
     -- 25: exactly where codes 24 and 1 to 12 find nothing and a limit is passed
-    pub limit : (o.answer ≡ Err LimitExceeded) ↔ ((none ≡ two_judged period left right)
+    pub limit : (o.answer ≡ Err limit_exceeded) ↔ ((none ≡ two_judged period left right)
         × (Within (joined_record period left right) (joined_bytes period left right) → ⊥))
     -- 26: exactly where no limit is passed and the slice has fewer bytes than the text, with their number
-    pub short : (n : ℕ) → (o.answer ≡ Err (OutTooShort n))
+    pub short : (n : ℕ) → (o.answer ≡ Err (out_too_short n))
         ↔ (Joinable × (n ≡ length (joined_bytes period left right)) × (length out < n))
     -- a length: exactly where the slice has so many bytes
     pub long : (n : ℕ) → (o.answer ≡ Ok n)

@@ -3,7 +3,7 @@
 -- Definitions only: the theorems are in proofs/Guarantees.antt.
 use Rattle.std.specs.Prelude.{◌≡◌, List, ℕ, ◌+◌, ◌*◌, ◌≤◌, ◌<◌, Err}
 use Rattle.limits.specs.Limits.{TickLength, shortest_tick}
-use Rattle.refusals.specs.declared.Refusal.TheVariants.{TickOutOfRange}
+use Rattle.refusals.specs.Refusals.{tick_out_of_range}
 use Rattle.reader_constraints.specs.Constraints.{in_ticks}
 use Rattle.clocks_read.specs.Reading.{read_outcome, NothingRead}
 use Rattle.safe_states.specs.Outcome.{safe_outcome}
@@ -28,36 +28,37 @@ pub record TicksDemand : Type 0 where
 -- a tick length that is not allowed: each operation gives 24, reading gives nothing beside it, and everything lent is as
 -- it came
 pub record LengthRefused (period : ℕ) : Type 0 where
-  pub read : (s : List ℕ) → (read_outcome period s ≡ Err (TickOutOfRange period)) × NothingRead (read_outcome period s)
+  pub read : (s : List ℕ) → (read_outcome period s ≡ Err (tick_out_of_range period))
+      × NothingRead (read_outcome period s)
   pub safe_states : (s keep : List ℕ)
-      → safe_outcome period s keep ≡ record { answer = Err (TickOutOfRange period); keep = keep }
-  pub implementation : (s : List ℕ) → implementation_outcome period s ≡ Err (TickOutOfRange period)
+      → safe_outcome period s keep ≡ record { answer = Err (tick_out_of_range period); keep = keep }
+  pub implementation : (s : List ℕ) → implementation_outcome period s ≡ Err (tick_out_of_range period)
   pub search : (left right keep : List ℕ) (back line : ℕ) (run : List ℕ)
       → search_outcome period left right keep back line run
-      ≡ record { answer = Err (TickOutOfRange period); keep = keep; run = run }
+      ≡ record { answer = Err (tick_out_of_range period); keep = keep; run = run }
   pub check : (left right keep table : List ℕ)
       → check_outcome period left right keep table
-      ≡ record { answer = Err (TickOutOfRange period); keep = keep }
+      ≡ record { answer = Err (tick_out_of_range period); keep = keep }
   pub widest : (left right keep table : List ℕ)
       → widest_outcome period left right keep table
-      ≡ record { answer = Err (TickOutOfRange period); keep = keep; table = table }
+      ≡ record { answer = Err (tick_out_of_range period); keep = keep; table = table }
   pub join : (left right out : List ℕ)
       → join_outcome period left right out
-      ≡ record { answer = Err (TickOutOfRange period); out = out }
+      ≡ record { answer = Err (tick_out_of_range period); out = out }
 
 -- an allowed one: no operation gives 24
 pub record LengthPassed (period : ℕ) : Type 0 where
-  pub read : (s : List ℕ) → Without TickOutOfRange (read_outcome period s)
-  pub safe_states : (s keep : List ℕ) → Without TickOutOfRange (safe_outcome period s keep).answer
-  pub implementation : (s : List ℕ) → Without TickOutOfRange (implementation_outcome period s)
+  pub read : (s : List ℕ) → Without tick_out_of_range (read_outcome period s)
+  pub safe_states : (s keep : List ℕ) → Without tick_out_of_range (safe_outcome period s keep).answer
+  pub implementation : (s : List ℕ) → Without tick_out_of_range (implementation_outcome period s)
   pub search : (left right keep : List ℕ) (back line : ℕ) (run : List ℕ)
-      → Without TickOutOfRange (search_outcome period left right keep back line run).answer
+      → Without tick_out_of_range (search_outcome period left right keep back line run).answer
   pub check : (left right keep table : List ℕ)
-      → Without TickOutOfRange (check_outcome period left right keep table).answer
+      → Without tick_out_of_range (check_outcome period left right keep table).answer
   pub widest : (left right keep table : List ℕ)
-      → Without TickOutOfRange (widest_outcome period left right keep table).answer
+      → Without tick_out_of_range (widest_outcome period left right keep table).answer
   pub join : (left right out : List ℕ)
-      → Without TickOutOfRange (join_outcome period left right out).answer
+      → Without tick_out_of_range (join_outcome period left right out).answer
 
 -- both, and that a text is accepted only at an allowed one
 pub record LengthDemand (period : ℕ) : Type 0 where

@@ -4,6 +4,7 @@ use Rattle.std.specs.Prelude.{◌≡◌, refl, true, List, ℕ, Option, Some, No
 use Rattle.std.proofs.Common.{ap, ◌∙◌}
 use Rattle.refusals.specs.declared.Refusal.{Refusal}
 use Rattle.refusals.specs.declared.Refusal.TheVariants as refusal
+use Rattle.refusals.specs.Refusals.{tick_out_of_range}
 use Rattle.refusals.specs.declared.File.TheVariants.{Left}
 use Rattle.refusals.specs.Answers.{answer_of}
 use Rattle.reader_record.specs.declared.Text.{Text}
@@ -124,7 +125,7 @@ refused_so period s r e = ap (λ (p : Result Text Refusal). answer_of (parsed_re
 pub sheet_large : answer_of (read_outcome shortest_tick sheet) ≡ Err (refusal.ConstantTooLarge Left 78)
 sheet_large = refused_so shortest_tick sheet _ sheet_refused.at_1
 
-pub sheet_zero : answer_of (read_outcome 0 sheet) ≡ Err (refusal.TickOutOfRange 0)
+pub sheet_zero : answer_of (read_outcome 0 sheet) ≡ Err (tick_out_of_range 0)
 sheet_zero = refused_so 0 sheet _ sheet_refused.at_0
 
 -- Twice is an implementation as Post is

@@ -4,7 +4,7 @@ use Rattle.std.specs.Prelude.{◌≡◌, Bool, List, ◌++◌, ℕ, ◌≤◌, �
 use Rattle.std.proofs.Common.{sym, ap, subst, ◌∙◌, arith}
 use Rattle.limits.specs.Limits.{shortest_tick, largest_text, state_limit}
 use Rattle.refusals.specs.declared.Refusal.{Refusal}
-use Rattle.refusals.specs.declared.Refusal.TheVariants.{OutTooShort}
+use Rattle.refusals.specs.Refusals.{out_too_short}
 use Rattle.reader_record.specs.declared.Text.{Text}
 use Rattle.reader_examples.specs.Texts.{post, overridden, idle, twice}
 use Rattle.clocks.specs.States.{state_count}
@@ -80,10 +80,10 @@ module _ {s u : List ℕ} {l r : Text} {n m : ℕ} {K J : List Bool} (x : Known 
   written_joins out h = (joining_exactly shortest_tick s u out).joins (length z) (answered out h)
 
   pub too_short : (out : List ℕ) → length out < length z
-      → join_outcome shortest_tick s u out ≡ record { answer = Err (OutTooShort (length z)); out = out }
+      → join_outcome shortest_tick s u out ≡ record { answer = Err (out_too_short (length z)); out = out }
   too_short out h =
       let d = joining_exactly shortest_tick s u out in
-      both (join_outcome shortest_tick s u out) (Err (OutTooShort (length z))) out
+      both (join_outcome shortest_tick s u out) (Err (out_too_short (length z))) out
       ((d.short (length z)).1 (joinable, ap length (sym bytes_are), h))
       (d.untouched (λ k q. let (j, p, l) = (d.long k).0 q in omega (arith, p, l, ap length bytes_are, h)))
 
@@ -99,7 +99,7 @@ post_idle_written_out = written_out post_known idle_known post_idle_equal post_i
 
 pub post_idle_too_short : (out : List ℕ) → length out < 386
     → join_outcome shortest_tick post idle out
-    ≡ record { answer = Err (OutTooShort 386); out = out }
+    ≡ record { answer = Err (out_too_short 386); out = out }
 post_idle_too_short = too_short post_known idle_known post_idle_equal post_idle_text post_idle_written post_idle_fits
     (omega (arith, post_idle_states)) (omega arith)
 

@@ -7,7 +7,7 @@ use mathlib.Core.List.{List, ◌++◌}
 use Prim.Native.Nat.{ℕ, ◌+◌, ◌*◌, ◌≤◌}
 use Rattle.std.proofs.Math.Dec.{ltb}
 use Rattle.std.proofs.Math.ListN.{length, drop}
-use Rattle.refusals.specs.declared.Refusal.TheVariants.{KeepTooShort, QueueTooShort, StartNotSafe, RunTooShort, TableTooShort, OtherTable, StartPairNotSet}
+use Rattle.refusals.specs.Refusals.{keep_too_short, table_too_short, queue_too_short, other_table, start_not_safe, start_pair_not_set, run_too_short}
 use Rattle.refusals.specs.Answers.{answer_of}
 use Rattle.reader_record.specs.declared.Text.{Text}
 use Rattle.systems.specs.Tests.{at, ones}
@@ -101,10 +101,10 @@ module _ {A : Signature} {L R : FiniteSystem A} {n m : ℕ} {K : List Bool} (F :
       past_four (ltb (length keep) (bytes_for L.size))
       (ltb back (L.size * R.size) || ltb line (L.size * R.size)) (not (safe L L.start))
       (ltb (length run) (length (search_run L R)))
-      (search.refused (KeepTooShort (bytes_for L.size)) keep run)
-      (search.refused (QueueTooShort (L.size * R.size)) keep run)
-      (search.refused (StartNotSafe L.start) (packed L.size (safe_states L) keep) run)
-      (search.refused (RunTooShort (length (search_run L R))) (packed L.size (safe_states L) keep) run)
+      (search.refused (keep_too_short (bytes_for L.size)) keep run)
+      (search.refused (queue_too_short (L.size * R.size)) keep run)
+      (search.refused (start_not_safe L.start) (packed L.size (safe_states L) keep) run)
+      (search.refused (run_too_short (length (search_run L R))) (packed L.size (safe_states L) keep) run)
       (search.found (search_run L R) (packed L.size (safe_states L) keep) run)
       (keep_long keep room.keep_room)
       (either_false (ltb back (L.size * R.size)) (ltb line (L.size * R.size)) (pairs_long back room.back_room)
@@ -117,50 +117,50 @@ module _ {A : Signature} {L R : FiniteSystem A} {n m : ℕ} {K : List Bool} (F :
 
   search_start_refused : at K 0 ≡ false → (keep : List ℕ) (back line : ℕ) (run : List ℕ)
       → Room n m 0 keep back line run
-      → search_systems L R keep back line run ≡ search.refused (StartNotSafe 0) (packed n K keep) run
+      → search_systems L R keep back line run ≡ search.refused (start_not_safe 0) (packed n K keep) run
   unfolding search_systems
   search_start_refused unsafe_start keep back line run room =
       at_third (ltb (length keep) (bytes_for L.size))
       (ltb back (L.size * R.size) || ltb line (L.size * R.size)) (not (safe L L.start))
-      (search.refused (KeepTooShort (bytes_for L.size)) keep run)
-      (search.refused (QueueTooShort (L.size * R.size)) keep run)
-      (search.refused (StartNotSafe L.start) (packed L.size (safe_states L) keep) run)
+      (search.refused (keep_too_short (bytes_for L.size)) keep run)
+      (search.refused (queue_too_short (L.size * R.size)) keep run)
+      (search.refused (start_not_safe L.start) (packed L.size (safe_states L) keep) run)
       (cond (ltb (length run) (length (search_run L R)))
-      (search.refused (RunTooShort (length (search_run L R))) (packed L.size (safe_states L) keep) run)
+      (search.refused (run_too_short (length (search_run L R))) (packed L.size (safe_states L) keep) run)
       (search.found (search_run L R) (packed L.size (safe_states L) keep) run))
       (keep_long keep room.keep_room)
       (either_false (ltb back (L.size * R.size)) (ltb line (L.size * R.size)) (pairs_long back room.back_room)
       (pairs_long line room.line_room))
       (start_is false unsafe_start)
-      ∙ ap (λ (i : ℕ). search.refused (StartNotSafe i) (packed L.size (safe_states L) keep) run) F.start
-      ∙ ap (λ (k : List ℕ). search.refused (StartNotSafe 0) k run) (kept_is keep)
+      ∙ ap (λ (i : ℕ). search.refused (start_not_safe i) (packed L.size (safe_states L) keep) run) F.start
+      ∙ ap (λ (k : List ℕ). search.refused (start_not_safe 0) k run) (kept_is keep)
 
   widest_start_refused : at K 0 ≡ false → (keep table : List ℕ) → bytes_for n ≤ length keep
       → table_bytes m n ≤ length table
-      → widest_systems L R keep table ≡ widest_refused (StartNotSafe 0) (packed n K keep) table
+      → widest_systems L R keep table ≡ widest_refused (start_not_safe 0) (packed n K keep) table
   unfolding widest_systems
   widest_start_refused unsafe_start keep table h k =
       at_third (ltb (length keep) (bytes_for L.size)) (ltb (length table) (table_bytes R.size L.size))
       (not (safe L L.start))
-      (widest_refused (KeepTooShort (bytes_for L.size)) keep table)
-      (widest_refused (TableTooShort (table_bytes R.size L.size)) keep table)
-      (widest_refused (StartNotSafe L.start) (packed L.size (safe_states L) keep) table) _
+      (widest_refused (keep_too_short (bytes_for L.size)) keep table)
+      (widest_refused (table_too_short (table_bytes R.size L.size)) keep table)
+      (widest_refused (start_not_safe L.start) (packed L.size (safe_states L) keep) table) _
       (keep_long keep h) (table_long table k) (start_is false unsafe_start)
-      ∙ ap (λ (i : ℕ). widest_refused (StartNotSafe i) (packed L.size (safe_states L) keep) table) F.start
-      ∙ ap (λ (k : List ℕ). widest_refused (StartNotSafe 0) k table) (kept_is keep)
+      ∙ ap (λ (i : ℕ). widest_refused (start_not_safe i) (packed L.size (safe_states L) keep) table) F.start
+      ∙ ap (λ (k : List ℕ). widest_refused (start_not_safe 0) k table) (kept_is keep)
 
   check_start_refused : at K 0 ≡ false → (keep table : List ℕ) → bytes_for n ≤ length keep
       → fits m n table ≡ true
-      → check_systems L R keep table ≡ check_refused (StartNotSafe 0) (packed n K keep)
+      → check_systems L R keep table ≡ check_refused (start_not_safe 0) (packed n K keep)
   unfolding check_systems
   check_start_refused unsafe_start keep table h form =
       at_third (ltb (length keep) (bytes_for L.size)) (not (fits R.size L.size table))
       (not (safe L L.start))
-      (check_refused (KeepTooShort (bytes_for L.size)) keep) (check_refused OtherTable keep)
-      (check_refused (StartNotSafe L.start) (packed L.size (safe_states L) keep)) _
+      (check_refused (keep_too_short (bytes_for L.size)) keep) (check_refused other_table keep)
+      (check_refused (start_not_safe L.start) (packed L.size (safe_states L) keep)) _
       (keep_long keep h) (form_is table form) (start_is false unsafe_start)
-      ∙ ap (λ (i : ℕ). check_refused (StartNotSafe i) (packed L.size (safe_states L) keep)) F.start
-      ∙ ap (check_refused (StartNotSafe 0)) (kept_is keep)
+      ∙ ap (λ (i : ℕ). check_refused (start_not_safe i) (packed L.size (safe_states L) keep)) F.start
+      ∙ ap (check_refused (start_not_safe 0)) (kept_is keep)
 
   widest_found : (X : List Bool) → at K 0 ≡ true → widest L R ≡ X → (keep table : List ℕ)
       → bytes_for n ≤ length keep → table_bytes m n ≤ length table
@@ -178,9 +178,9 @@ module _ {A : Signature} {L R : FiniteSystem A} {n m : ℕ} {K : List Bool} (F :
       } in
       past_three (ltb (length keep) (bytes_for L.size)) (ltb (length table) (table_bytes R.size L.size))
       (not (safe L L.start))
-      (widest_refused (KeepTooShort (bytes_for L.size)) keep table)
-      (widest_refused (TableTooShort (table_bytes R.size L.size)) keep table)
-      (widest_refused (StartNotSafe L.start) (packed L.size (safe_states L) keep) table)
+      (widest_refused (keep_too_short (bytes_for L.size)) keep table)
+      (widest_refused (table_too_short (table_bytes R.size L.size)) keep table)
+      (widest_refused (start_not_safe L.start) (packed L.size (safe_states L) keep) table)
       (result (L.start * R.size + R.start) L.size R.size (widest L R) (packed L.size (safe_states L) keep))
       (keep_long keep h)
       (table_long table k)
@@ -207,10 +207,10 @@ module _ {A : Signature} {L R : FiniteSystem A} {n m : ℕ} {K : List Bool} (F :
       let raster = drop (header_bytes R.size L.size) table in
       past_four (ltb (length keep) (bytes_for L.size)) (not (fits R.size L.size table))
       (not (safe L L.start)) (not (set_at R.size raster L.start R.start))
-      (check_refused (KeepTooShort (bytes_for L.size)) keep)
-      (check_refused OtherTable keep)
-      (check_refused (StartNotSafe L.start) (packed L.size (safe_states L) keep))
-      (check_refused (StartPairNotSet L.start R.start) (packed L.size (safe_states L) keep))
+      (check_refused (keep_too_short (bytes_for L.size)) keep)
+      (check_refused other_table keep)
+      (check_refused (start_not_safe L.start) (packed L.size (safe_states L) keep))
+      (check_refused (start_pair_not_set L.start R.start) (packed L.size (safe_states L) keep))
       (result L.size R.size raster (pairs_judged L R (set_at R.size raster)) (packed L.size (safe_states L) keep))
       (keep_long keep h)
       (form_is table form)
@@ -273,20 +273,20 @@ module _ {s u : List ℕ} {l r : Text} {n m : ℕ} {K J : List Bool} (x : Known 
   -- the left's start is not safe
   pub search_unsafe : at K 0 ≡ false → (keep : List ℕ) (back line : ℕ) (run : List ℕ)
       → Room n m 0 keep back line run
-      → search_outcome shortest_tick s u keep back line run ≡ search.refused (StartNotSafe 0) (packed n K keep) run
+      → search_outcome shortest_tick s u keep back line run ≡ search.refused (start_not_safe 0) (packed n K keep) run
   search_unsafe unsafe keep back line run room =
       search_is shortest_tick s u left_accepted right_accepted channels_equal keep back line run
       ∙ search_start_refused facts unsafe keep back line run room
 
   pub check_unsafe : at K 0 ≡ false → (keep table : List ℕ) → bytes_for n ≤ length keep → fits m n table ≡ true
-      → check_outcome shortest_tick s u keep table ≡ check_refused (StartNotSafe 0) (packed n K keep)
+      → check_outcome shortest_tick s u keep table ≡ check_refused (start_not_safe 0) (packed n K keep)
   check_unsafe unsafe keep table h form =
       check_is shortest_tick s u left_accepted right_accepted channels_equal keep table
       ∙ check_start_refused facts unsafe keep table h form
 
   pub widest_unsafe : at K 0 ≡ false → (keep table : List ℕ) → bytes_for n ≤ length keep
       → table_bytes m n ≤ length table
-      → widest_outcome shortest_tick s u keep table ≡ widest_refused (StartNotSafe 0) (packed n K keep) table
+      → widest_outcome shortest_tick s u keep table ≡ widest_refused (start_not_safe 0) (packed n K keep) table
   widest_unsafe unsafe keep table h k =
       widest_is shortest_tick s u left_accepted right_accepted channels_equal keep table
       ∙ widest_start_refused facts unsafe keep table h k

@@ -2,7 +2,7 @@
 use Rattle.std.specs.Prelude.{◌≡◌, refl, Bool, true, false, List, [], ◌∷◌, ◌++◌, ℕ, ◌≤◌, length, drop, Result, Ok, ⊤}
 use Rattle.std.proofs.Common.{ap, ◌∙◌}
 use Rattle.refusals.specs.declared.Refusal.{Refusal}
-use Rattle.refusals.specs.declared.Refusal.TheVariants.{StartNotSafe}
+use Rattle.refusals.specs.Refusals.{start_not_safe}
 use Rattle.reader_record.specs.declared.Text.{Text}
 use Rattle.pairing.specs.Channels.{unmatched}
 use Rattle.bitmaps.specs.Packed.{bytes_for}
@@ -89,11 +89,11 @@ starred_posts = record {
   strict_safe = strict_counted;
   hush_safe = hush_counted;
   hush_search = λ keep back line run room. search_unsafe hush_known post_known hush_post_equal refl keep back line run room
-      ∙ ap (λ (k : List ℕ). search.refused (StartNotSafe 0) k run) (hush_bytes keep);
+      ∙ ap (λ (k : List ℕ). search.refused (start_not_safe 0) k run) (hush_bytes keep);
   hush_check = λ keep table h form. check_unsafe hush_known post_known hush_post_equal refl keep table h
-      (T_true (fits 10 10 table) form) ∙ ap (check_refused (StartNotSafe 0)) (hush_bytes keep);
+      (T_true (fits 10 10 table) form) ∙ ap (check_refused (start_not_safe 0)) (hush_bytes keep);
   hush_widest = λ keep table h k. widest_unsafe hush_known post_known hush_post_equal refl keep table h (rw file_size k)
-      ∙ ap (λ (k : List ℕ). widest_refused (StartNotSafe 0) k table) (hush_bytes keep);
+      ∙ ap (λ (k : List ℕ). widest_refused (start_not_safe 0) k table) (hush_bytes keep);
   post_post = searched post_known post_known post_post_equal refl [] post_post_run;
   post_widest = made_as_post post_known post_known post_post_equal refl post_widest;
   diagonal = λ keep h. post_post_checked diagonal_raster (Ok tt) diagonal_fits refl diagonal_judged keep h

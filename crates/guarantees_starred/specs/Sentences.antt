@@ -3,8 +3,9 @@
 -- (SPECIFICATION 17.4).
 use Rattle.std.specs.Prelude.{◌≡◌, true, false, List, [], ◌∷◌, ◌++◌, ℕ, ◌*◌, ◌≤◌, length, drop, Ok, Err}
 use Rattle.reader_examples.specs.Texts.{post, rearm, early, strict, loose, sheet, hush, idle, spare, twice, stay_or_go, reset_or_not, woken, overridden, too_late, late_or_not}
-use Rattle.refusals.specs.declared.File.TheVariants.{Left}
-use Rattle.refusals.specs.declared.Refusal.TheVariants.{ConstantTooLarge, InputWithoutMove, TwoEdges, StartNotSafe, RuleBroken, OutputBesideTick, NeitherPossible, TickOutOfRange}
+use Rattle.refusals.specs.declared.File.TheVariants.{None, Left}
+use Rattle.refusals.specs.declared.Refusal.TheVariants.{ConstantTooLarge, InputWithoutMove, TwoEdges, RuleBroken, OutputBesideTick, NeitherPossible}
+use Rattle.refusals.specs.Refusals.{start_not_safe, tick_out_of_range}
 use Rattle.refusals.specs.Answers.{answer_of}
 use Rattle.systems.specs.Definitions.{tick}
 use Rattle.reachable.specs.Check.{neither}
@@ -84,14 +85,14 @@ pub record Starred : Type 0 where
   -- (SPECIFICATION 13.5, 16.3)
   pub hush_search : (keep : List ℕ) (back line : ℕ) (run : List ℕ) → Room 10 10 0 keep back line run
       → search_outcome shortest_tick hush post keep back line run
-      ≡ record { answer = Err (StartNotSafe 0); keep = hush_kept keep; run = run }
+      ≡ record { answer = Err (start_not_safe 0); keep = hush_kept keep; run = run }
   pub hush_check : (keep table : List ℕ) → 2 ≤ length keep → RightForm 10 10 table
       → check_outcome shortest_tick hush post keep table
-      ≡ record { answer = Err (StartNotSafe 0); keep = hush_kept keep }
+      ≡ record { answer = Err (start_not_safe 0); keep = hush_kept keep }
   pub hush_widest : (keep table : List ℕ) → 2 ≤ length keep → 29 ≤ length table
       → widest_outcome shortest_tick hush post keep table
       ≡ record {
-        answer = Err (StartNotSafe 0);
+        answer = Err (start_not_safe 0);
         keep = hush_kept keep;
         table = table;
       }
@@ -105,7 +106,7 @@ pub record Starred : Type 0 where
   -- the check of the table with the starts alone: the tick breaks a rule (SPECIFICATION 16.4)
   pub start_only : (keep : List ℕ) → 2 ≤ length keep
       → (check_outcome shortest_tick post post keep (ten_by_ten start_raster)).answer
-      ≡ Err (RuleBroken (step 0) 0)
+      ≡ Err (RuleBroken None (step 0) 0)
   -- Rearm's widest table against Post (SPECIFICATION 16.5)
   pub rearm_widest : (keep table : List ℕ) → 2 ≤ length keep → 29 ≤ length table
       → (widest_outcome shortest_tick rearm post keep table).answer ≡ Ok (record { count = 25; start = false })
@@ -147,7 +148,7 @@ pub record Starred : Type 0 where
   pub sheet_longest : implementation_outcome 60000 sheet ≡ Ok tt
   pub sheet_large : answer_of (read_outcome shortest_tick sheet)
       ≡ Err (ConstantTooLarge Left 78)
-  pub sheet_zero : answer_of (read_outcome 0 sheet) ≡ Err (TickOutOfRange 0)
+  pub sheet_zero : answer_of (read_outcome 0 sheet) ≡ Err (tick_out_of_range 0)
   -- Twice: its parallel edges make one move, so that it has the answers of Post (SPECIFICATION 16.10)
   pub twice_states : states_in (read_outcome shortest_tick twice) ≡ 10
   pub twice_safe : (keep : List ℕ) → 2 ≤ length keep → (safe_outcome shortest_tick twice keep).answer

@@ -6,8 +6,7 @@ use Rattle.std.proofs.Common.{ap, arith}
 use Rattle.std.proofs.Math.Bool.{true, false}
 use Rattle.limits.specs.Limits.{largest_text, tick_allowed}
 use Rattle.refusals.specs.declared.Refusal.{Refusal}
-use Rattle.refusals.specs.declared.Refusal.TheVariants.{TickOutOfRange}
-use Rattle.refusals.specs.Refusals.{code}
+use Rattle.refusals.specs.Refusals.{code, tick_out_of_range}
 use Rattle.refusals.specs.Answers.{answer_of}
 use Rattle.reader_record.specs.declared.Text.{Text}
 use Rattle.reader_parts.specs.declared.Fault.{Fault}
@@ -27,7 +26,7 @@ abbrev pub last_code : ℕ
 last_code = 11
 
 abbrev pub tick_code : ℕ
-tick_code = code (TickOutOfRange 0)
+tick_code = code (tick_out_of_range 0)
 
 -- a code up to n, or 24, by whether the tick length is allowed
 abbrev pub CodeUpTo : ℕ → Bool → ℕ → Type 0
@@ -95,7 +94,7 @@ module _ (period : ℕ) where
       answered (Err f) = unfold Early in refusal_early f
 
       judged : (a b : Bool) → Early last_token_code a
-          (answer_of (if a then (if b then Err (refusal_of TooLong) else read) else Err (TickOutOfRange period)))
+          (answer_of (if a then (if b then Err (refusal_of TooLong) else read) else Err (tick_out_of_range period)))
       judged true true = unfold Early in refusal_early TooLong
       judged true false = answered (reader.text_of (reader.read_whole period s))
       judged false b = unfold Early in refl

@@ -5,7 +5,7 @@ use Rattle.std.proofs.Common.{sym, subst, ◌∙◌, arith}
 use mathlib.Core.List.{List}
 use Rattle.limits.specs.Limits.{state_limit, step_limit}
 use Rattle.refusals.specs.declared.Refusal.{Refusal}
-use Rattle.refusals.specs.declared.Refusal.TheVariants.{LimitExceeded}
+use Rattle.refusals.specs.Refusals.{limit_exceeded}
 use Rattle.bitmaps.specs.Bits.{tab_from}
 use Rattle.reader_record.specs.declared.Text.{Text}
 use Rattle.reader_record.specs.Formed.{WellFormed}
@@ -29,21 +29,21 @@ use Rattle.joining.proofs.Laws.{over_counts, over_states, by_text}
 use Rattle.joining.proofs.Built.{alike_countable, spellings_same, alike_within}
 
 -- what `ok_or` makes of the joined record: a refusal where there is none
-none_of : (j : Option Text) (q : Result Text Refusal) (e : Refusal) → q ≡ ok_or j LimitExceeded → q ≡ Err e
-    → (j ≡ None) × (e ≡ LimitExceeded)
+none_of : (j : Option Text) (q : Result Text Refusal) (e : Refusal) → q ≡ ok_or j limit_exceeded → q ≡ Err e
+    → (j ≡ None) × (e ≡ limit_exceeded)
 none_of None q e a b = (refl, inner (sym b ∙ a))
   where
-    inner : ◌≡◌ {A = Result Text Refusal} (Err e) (Err LimitExceeded) → e ≡ LimitExceeded
+    inner : ◌≡◌ {A = Result Text Refusal} (Err e) (Err limit_exceeded) → e ≡ limit_exceeded
     inner i = cc
 none_of (Some x) q e a b = absurd (inner (sym b ∙ a))
   where
     inner : ◌≡◌ {A = Result Text Refusal} (Err e) (Ok x) → ⊥
     inner i = cc
 
-some_of : (j : Option Text) (q : Result Text Refusal) (t : Text) → q ≡ ok_or j LimitExceeded → q ≡ Ok t → j ≡ Some t
+some_of : (j : Option Text) (q : Result Text Refusal) (t : Text) → q ≡ ok_or j limit_exceeded → q ≡ Ok t → j ≡ Some t
 some_of None q t a b = absurd (inner (sym b ∙ a))
   where
-    inner : ◌≡◌ {A = Result Text Refusal} (Ok t) (Err LimitExceeded) → ⊥
+    inner : ◌≡◌ {A = Result Text Refusal} (Ok t) (Err limit_exceeded) → ⊥
     inner i = cc
 some_of (Some x) q t a b = inner (sym b ∙ a)
   where
@@ -65,7 +65,7 @@ unfolding JoinsRecords
 joins_some l r map j t b e = rw e at b
 
 pub joins : (l r : Text) (map : List ℕ) (j : Option Text) (q : Result Text Refusal) (t : Text)
-    → JoinsRecords l r map j → q ≡ ok_or j LimitExceeded → q ≡ Ok t → JoinedRecord l r map t
+    → JoinsRecords l r map j → q ≡ ok_or j limit_exceeded → q ≡ Ok t → JoinedRecord l r map t
 joins l r map j q t b a e = joins_some l r map j t b (some_of j q t a e)
 
 -- for the records l and r of the texts `left` and `right`, by a table of the right's numbers of the left's steps
@@ -83,7 +83,7 @@ module _ (left right : List ℕ) (l r : Text) (ready : Ready left l r) {map : Li
 
   -- where a count passes its limit
   pub no_record : (j : Option Text) (q : Result Text Refusal) {e : Refusal} {a : Result ℕ Refusal} (out : List ℕ)
-      → JoinsRecords l r map j → q ≡ ok_or j LimitExceeded → q ≡ Err e → IsErrAnd a (λ d. d ≡ e)
+      → JoinsRecords l r map j → q ≡ ok_or j limit_exceeded → q ≡ Err e → IsErrAnd a (λ d. d ≡ e)
       → ◌≡◌ {A = Outcome} (record { answer = a; out = out }) (record_outcome J z out)
   unfolding refused
   no_record j q {e = e} {a = a} out b o x h =
@@ -116,7 +116,7 @@ module _ (left right : List ℕ) (l r : Text) (ready : Ready left l r) {map : Li
         ∙ text_same J t alike (channel_spellings left l)
 
     pub many_states : {n : ℕ} (out : List ℕ) → n ≡ state_count t → state_limit < n
-        → ◌≡◌ {A = Outcome} (record { answer = Err LimitExceeded; out = out }) (record_outcome J z out)
+        → ◌≡◌ {A = Outcome} (record { answer = Err limit_exceeded; out = out }) (record_outcome J z out)
     unfolding refused
     many_states out e h =
         over_states J z out fit (omega (arith, e, h, state_count_same J t formed alike))

@@ -6,7 +6,7 @@ use Rattle.std.proofs.Math.ListN.{take, drop}
 use Rattle.std.proofs.Math.Seq.{take_all}
 use borrow.Author.Tests.{lt-ltb, le-ltb, lt-leb, le-leb}
 use Rattle.limits.specs.Limits.{largest_text, state_limit}
-use Rattle.refusals.specs.declared.Refusal.TheVariants.{LimitExceeded, OutTooShort}
+use Rattle.refusals.specs.Refusals.{limit_exceeded, out_too_short}
 use Rattle.byte_slices.specs.Laid.{Laid, laid}
 use Rattle.byte_slices.specs.Put.{Puts, puts_same, puts_laid}
 use Rattle.reader_record.specs.declared.Text.{Text}
@@ -22,12 +22,12 @@ use Rattle.joining.specs.Ready.{room, bytes_outcome}
 
 -- code 25 for the counts, then for the states; then it goes by the text
 module _ (t : Text) (z out : List ℕ) where
-  pub over_counts : counts_fit t ≡ false → refused LimitExceeded out ≡ record_outcome t z out
+  pub over_counts : counts_fit t ≡ false → refused limit_exceeded out ≡ record_outcome t z out
   unfolding record_outcome within_limits
   over_counts e = rw e
 
   pub over_states : counts_fit t ≡ true → state_limit < state_count t
-      → refused LimitExceeded out ≡ record_outcome t z out
+      → refused limit_exceeded out ≡ record_outcome t z out
   unfolding record_outcome within_limits
   over_states e h = rw (e, lt-leb (state_count t) state_limit h)
 
@@ -65,12 +65,13 @@ module _ (z : List ℕ) {before after : List ℕ} {n : ℕ} (size : length befor
       (take_at z (drop (length z) before) n m)
 
   module _ (out : List ℕ) where
-    pub text_over : largest_text < n → ◌≡◌ {A = Outcome} (record { answer = Err LimitExceeded; out = out }) (bytes_outcome z out)
+    pub text_over : largest_text < n
+        → ◌≡◌ {A = Outcome} (record { answer = Err limit_exceeded; out = out }) (bytes_outcome z out)
     unfolding bytes_outcome refused
     text_over h = rw (lt-leb (length z) largest_text (omega (arith, count_is)))
 
     pub text_short : n ≤ largest_text → length out < n
-        → ◌≡◌ {A = Outcome} (record { answer = Err (OutTooShort n); out = out }) (bytes_outcome z out)
+        → ◌≡◌ {A = Outcome} (record { answer = Err (out_too_short n); out = out }) (bytes_outcome z out)
     unfolding bytes_outcome laid_text refused
     text_short h s =
         let m = text_size h in

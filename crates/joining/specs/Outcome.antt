@@ -3,7 +3,7 @@
 use Rattle.std.specs.Prelude.{Bool, ◌&&◌, cond, List, ◌++◌, ℕ, leb, ltb, length, drop, Result, Ok, Err}
 use Rattle.limits.specs.Limits.{largest_text, state_limit}
 use Rattle.refusals.specs.declared.Refusal.{Refusal}
-use Rattle.refusals.specs.declared.Refusal.TheVariants.{LimitExceeded, OutTooShort}
+use Rattle.refusals.specs.Refusals.{limit_exceeded, out_too_short}
 use Rattle.reader_record.specs.declared.Text.{Text}
 use Rattle.clocks.specs.States.{state_count}
 use Rattle.two_texts.specs.Two.{text_of, two_judged, step_of, judged_by}
@@ -26,12 +26,12 @@ within_limits t z = counts_fit t && (leb (state_count t) state_limit && leb (len
 -- code 26, else the text and what stood behind it (SPECIFICATION 12.7, 18.9)
 unfoldable pub laid_text : List ℕ → List ℕ → Outcome
 laid_text z out =
-    cond (ltb (length out) (length z)) (refused (OutTooShort (length z)) out)
+    cond (ltb (length out) (length z)) (refused (out_too_short (length z)) out)
     (record { answer = Ok (length z); out = z ++ drop (length z) out })
 
 -- code 25 comes first
 unfoldable pub record_outcome : Text → List ℕ → List ℕ → Outcome
-record_outcome t z out = cond (within_limits t z) (laid_text z out) (refused LimitExceeded out)
+record_outcome t z out = cond (within_limits t z) (laid_text z out) (refused limit_exceeded out)
 
 -- at one tick length for both texts, `period` (SPECIFICATION 4.7)
 module _ (period : ℕ) where

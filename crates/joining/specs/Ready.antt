@@ -1,7 +1,7 @@
 -- What the parts of joining ask for and give, for inner contracts. Definitions only.
 use Rattle.std.specs.Prelude.{cond, List, ℕ, ◌+◌, leb, length}
 use Rattle.limits.specs.Limits.{largest_text}
-use Rattle.refusals.specs.declared.Refusal.TheVariants.{LimitExceeded}
+use Rattle.refusals.specs.Refusals.{limit_exceeded}
 use Rattle.reader_record.specs.declared.Text.{Text}
 use Rattle.reader_record.specs.Formed.{WellFormed}
 use Rattle.reader_formed.specs.Promise.{NamesWithin}
@@ -19,4 +19,4 @@ pub record Ready (s : List ℕ) (l r : Text) : Type 0 where
 
 -- the outcome for a record whose counts and states are within the limits, by its text z alone
 unfoldable pub bytes_outcome : List ℕ → List ℕ → Outcome
-bytes_outcome z out = cond (leb (length z) largest_text) (laid_text z out) (refused LimitExceeded out)
+bytes_outcome z out = cond (leb (length z) largest_text) (laid_text z out) (refused limit_exceeded out)

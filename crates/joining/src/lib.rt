@@ -18,7 +18,7 @@ ghost use Rattle.joining.specs.Ready.{room, Ready, bytes_outcome};
 
 use limits::{LARGEST_TEXT, STATE_LIMIT};
 use reader_record::Text;
-use refusals::Refusal;
+use refusals::{File, Refusal};
 use two_texts::MeasuredTexts;
 
 // Room for the longest text and one byte more.
@@ -57,10 +57,10 @@ fn write_text(s: &[u8], t: Text, out: &mut [u8]) -> Result<usize, Refusal>
     let mut text = no_bytes();
     let n = writer::put_text(&mut text, 0, s, u, t);
     if LARGEST_TEXT < n {
-        return Err(Refusal::LimitExceeded);
+        return Err(Refusal::LimitExceeded(File::None));
     }
     if out.len() < n {
-        return Err(Refusal::OutTooShort(n));
+        return Err(Refusal::OutTooShort(File::None, n));
     }
     byte_slices::put_bytes(out, 0, &text[..n]);
     Ok(n)
@@ -81,9 +81,11 @@ fn join_accepted(
         (joined_text (right_step left.now l right.now r) l r)) out.old) }
 {
     let pairing = pairing::pair_channels(left, l, right, r);
-    let t = joining_record::join_records(l, r, pairing.map).ok_or(Refusal::LimitExceeded)?;
+    let t = joining_record::join_records(l, r, pairing.map).ok_or(Refusal::LimitExceeded(
+        File::None,
+    ))?;
     if STATE_LIMIT < states_of(t) {
-        return Err(Refusal::LimitExceeded);
+        return Err(Refusal::LimitExceeded(File::None));
     }
     write_text(left, t, out)
 }

@@ -8,7 +8,7 @@ use Rattle.std.proofs.Common.{le-leb, ne_eqb}
 use Rattle.std.proofs.Math.ListN.{length}
 use Rattle.limits.specs.Limits.{state_limit}
 use Rattle.refusals.specs.declared.Refusal.{Refusal}
-use Rattle.refusals.specs.declared.Refusal.TheVariants.{KeepTooShort, TableTooShort, QueueTooShort, RunTooShort}
+use Rattle.refusals.specs.Refusals.{keep_too_short, table_too_short, queue_too_short, run_too_short}
 use Rattle.refusals.specs.Answers.{answer_of}
 use Rattle.systems.specs.Renumbered.{renumbered}
 use Rattle.bitmaps.specs.Packed.{bytes_for}
@@ -68,7 +68,7 @@ module _ (period : ℕ) where
 
     -- safe states: not 13
     pub safe_enough : (keep : List ℕ) → keep_needed (states_in (read_outcome period s)) ≤ length keep
-        → ReturnsNo KeepTooShort (of_safe (safe_outcome period s keep).answer)
+        → ReturnsNo keep_too_short (of_safe (safe_outcome period s keep).answer)
     unfolding safe_outcome
     safe_enough keep k =
         let r = read_accepted period s a in
@@ -137,30 +137,30 @@ module _ (period : ℕ) where
           (right_system period (compared period left right e)) keep (keep_long keep k) back line run (queue_long back b)
           (queue_long line l) kind short)
 
-      pub search_enough : ReturnsNo KeepTooShort
+      pub search_enough : ReturnsNo keep_too_short
           (of_search (search_outcome period left right keep back line run).answer)
-          × ReturnsNo QueueTooShort (of_search (search_outcome period left right keep back line run).answer)
+          × ReturnsNo queue_too_short (of_search (search_outcome period left right keep back line run).answer)
       search_enough = (
-        search_without KeepTooShort (λ i. (omega arith, omega arith)),
-        search_without QueueTooShort (λ i. (omega arith, omega arith)),
+        search_without keep_too_short (λ i. (omega arith, omega arith)),
+        search_without queue_too_short (λ i. (omega arith, omega arith)),
       )
 
       pub run_enough : queue_needed left_states right_states ≤ length run
-          → ReturnsNo RunTooShort (of_search (search_outcome period left right keep back line run).answer)
+          → ReturnsNo run_too_short (of_search (search_outcome period left right keep back line run).answer)
       run_enough r = rw search_is (searched_run (left_system period (compared period left right e))
           (right_system period (compared period left right e)) keep (keep_long keep k) back line run (queue_long back b)
           (queue_long line l) (queue_long (length run) r))
 
     -- the check: not 13
     pub check_enough : (keep table : List ℕ) → keep_needed left_states ≤ length keep
-        → ReturnsNo KeepTooShort (of_check (check_outcome period left right keep table).answer)
+        → ReturnsNo keep_too_short (of_check (check_outcome period left right keep table).answer)
     unfolding check_outcome
     check_enough keep table k =
         rw (judged_by_none (two_judged period left right) (λ (r : Refusal). check_refused r keep)
         (λ (f : none ≡ two_judged period left right). check_systems (left_system period (compared period left right f))
         (right_system period (compared period left right f)) keep table) e)
         (checked (left_system period (compared period left right e))
-        (right_system period (compared period left right e)) keep table KeepTooShort
+        (right_system period (compared period left right e)) keep table keep_too_short
         (λ i. (omega arith, omega arith)) (keep_long keep k))
 
     -- the widest table: not 13 or 14
@@ -179,9 +179,9 @@ module _ (period : ℕ) where
           (right_system period (compared period left right e)) keep table kind short
           (keep_long keep k) (table_long table t))
 
-      pub widest_enough : ReturnsNo KeepTooShort (of_widest (widest_outcome period left right keep table).answer)
-          × ReturnsNo TableTooShort (of_widest (widest_outcome period left right keep table).answer)
+      pub widest_enough : ReturnsNo keep_too_short (of_widest (widest_outcome period left right keep table).answer)
+          × ReturnsNo table_too_short (of_widest (widest_outcome period left right keep table).answer)
       widest_enough = (
-        widest_without KeepTooShort (λ i. (omega arith, omega arith)),
-        widest_without TableTooShort (λ i. (omega arith, omega arith)),
+        widest_without keep_too_short (λ i. (omega arith, omega arith)),
+        widest_without table_too_short (λ i. (omega arith, omega arith)),
       )

@@ -6,8 +6,7 @@ use Rattle.std.proofs.Math.Bool.{true, false}
 use borrow.Author.Tests.{le-ltb}
 use Rattle.std.proofs.Math.Dec.{T}
 use Rattle.refusals.specs.declared.Refusal.{Refusal}
-use Rattle.refusals.specs.declared.Refusal.TheVariants.{KeepTooShort, OtherTable, StartNotSafe, StartPairNotSet, RunTooShort}
-use Rattle.refusals.specs.Refusals.{code}
+use Rattle.refusals.specs.Refusals.{code, keep_too_short, other_table, start_not_safe, start_pair_not_set, run_too_short}
 use Rattle.systems.specs.Tests.{ones}
 use Rattle.systems.specs.Definitions.{Signature}
 use Rattle.systems.specs.Finite.{FiniteSystem, safe, safe_states, search_run}
@@ -29,18 +28,18 @@ use Rattle.megzhoi_c.specs.Returned.{of_numbers, of_safe, of_search, of_check, o
 
 -- a refusal whose code is from 13 to 15
 abbrev pub Short : (ℕ → Refusal) → Type 0
-Short kind = (i : ℕ) → (code (KeepTooShort 0) ≤ code (kind i)) × (code (kind i) < code OtherTable)
+Short kind = (i : ℕ) → (code (keep_too_short 0) ≤ code (kind i)) × (code (kind i) < code other_table)
 
 -- the safe states of a record
 pub kept : (t : Text) (keep : List ℕ) → bytes_for (state_count t) ≤ length keep
-    → ReturnsNo KeepTooShort (of_safe (kept_outcome t keep).answer)
+    → ReturnsNo keep_too_short (of_safe (kept_outcome t keep).answer)
 unfolding kept_outcome found_outcome of_numbers
 kept t keep k = rw (le-ltb (length keep) (bytes_for (state_count t)) k, kept_outcome) (λ i e. omega (arith, e))
 
 -- the search
 search_late : (a b : Bool) (s n : ℕ) (steps kept run : List ℕ) (kind : ℕ → Refusal) → Short kind
-    → ReturnsNo kind (of_search (cond a (search.refused (StartNotSafe s) kept run)
-    (cond b (search.refused (RunTooShort n) kept run) (search.found steps kept run))).answer)
+    → ReturnsNo kind (of_search (cond a (search.refused (start_not_safe s) kept run)
+    (cond b (search.refused (run_too_short n) kept run) (search.found steps kept run))).answer)
 unfolding of_numbers
 search_late true b s n steps kept run kind short i e = omega (arith, short i, e)
 search_late false true s n steps kept run kind short i e = omega (arith, short i, e)
@@ -62,12 +61,12 @@ module _ {A : Signature} (L R : FiniteSystem A) (keep : List ℕ) (k : bytes_for
 
     -- a departure has at most as many steps as there are pairs
     pub searched_run : L.size * R.size ≤ length run
-        → ReturnsNo RunTooShort (of_search (search_systems L R keep back line run).answer)
+        → ReturnsNo run_too_short (of_search (search_systems L R keep back line run).answer)
     unfolding search_systems of_numbers
     searched_run r = go (safe L L.start) refl
       where
         go : (s : Bool) → safe L L.start ≡ s
-            → ReturnsNo RunTooShort (of_search (search_systems L R keep back line run).answer)
+            → ReturnsNo run_too_short (of_search (search_systems L R keep back line run).answer)
         go true q =
             let few = search_bounded (identity L) (identity R) (subst T (sym q) tt) in
             rw (
@@ -97,9 +96,9 @@ scan_late width count (Err (BrokenAt step s t)) kind short i e = omega (arith, s
 
 check_late : (a b c : Bool) (s t : ℕ) (answer : Result ℕ Refusal) (keep kept : List ℕ) (kind : ℕ → Refusal) → Short kind
     → ReturnsNo kind (of_check answer)
-    → ReturnsNo kind (of_check (cond a (check_refused OtherTable keep)
-    (cond b (check_refused (StartNotSafe s) kept)
-    (cond c (check_refused (StartPairNotSet s t) kept) (record { answer = answer; keep = kept })))).answer)
+    → ReturnsNo kind (of_check (cond a (check_refused other_table keep)
+    (cond b (check_refused (start_not_safe s) kept)
+    (cond c (check_refused (start_pair_not_set s t) kept) (record { answer = answer; keep = kept })))).answer)
 unfolding of_numbers
 check_late true b c s t answer keep kept kind short last i e = omega (arith, short i, e)
 check_late false true c s t answer keep kept kind short last i e = omega (arith, short i, e)
@@ -122,7 +121,7 @@ checked L R keep table kind short k =
 
 -- the widest table
 widest_late : (a : Bool) (s : ℕ) (made : WidestTable) (kept table after : List ℕ) (kind : ℕ → Refusal) → Short kind
-    → ReturnsNo kind (of_widest (cond a (widest_refused (StartNotSafe s) kept table)
+    → ReturnsNo kind (of_widest (cond a (widest_refused (start_not_safe s) kept table)
     (record { answer = Ok made; keep = kept; table = after })).answer)
 unfolding of_numbers
 widest_late true s made kept table after kind short i e = omega (arith, short i, e)

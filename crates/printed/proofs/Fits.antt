@@ -14,7 +14,7 @@ use lib.Seq.{take_at}
 use borrow.Author.Tests.{ltb-false, ne_eqb}
 use Rattle.limits.specs.Limits.{largest_name, keep_limit}
 use Rattle.refusals.specs.declared.Refusal.{Refusal}
-use Rattle.refusals.specs.declared.Refusal.TheVariants.{KeepTooShort, QueueTooShort, StartNotSafe, RunTooShort}
+use Rattle.refusals.specs.Refusals.{keep_too_short, queue_too_short, start_not_safe, run_too_short}
 use Rattle.refusals.specs.Answers.{answer_of}
 use Rattle.systems.specs.Definitions.{Signature, tick}
 use Rattle.systems.specs.Finite.{FiniteSystem, safe, safe_states, pruned, search_run}
@@ -77,10 +77,10 @@ systems_told {A} L R keep back line before =
   where
     go : (a b c : Bool) → safe L L.start ≡ c → (d : Bool) → ltb (length before) (length (search_run L R)) ≡ d
         → Told A.channels before
-        (cond a (search.refused (KeepTooShort (bytes_for L.size)) keep before)
-        (cond b (search.refused (QueueTooShort (L.size * R.size)) keep before)
-        (cond (not c) (search.refused (StartNotSafe L.start) (packed L.size (safe_states L) keep) before)
-        (cond d (search.refused (RunTooShort (length (search_run L R))) (packed L.size (safe_states L) keep)
+        (cond a (search.refused (keep_too_short (bytes_for L.size)) keep before)
+        (cond b (search.refused (queue_too_short (L.size * R.size)) keep before)
+        (cond (not c) (search.refused (start_not_safe L.start) (packed L.size (safe_states L) keep) before)
+        (cond d (search.refused (run_too_short (length (search_run L R))) (packed L.size (safe_states L) keep)
         before)
         (search.found (search_run L R) (packed L.size (safe_states L) keep) before)))))
     go true b c e d f = refused

@@ -13,7 +13,7 @@ use lib.Seq.{take_at}
 use borrow.Author.Tests.{ltb-false}
 use Rattle.limits.specs.Limits.{keep_limit}
 use Rattle.refusals.specs.declared.Refusal.{Refusal}
-use Rattle.refusals.specs.declared.Refusal.TheVariants.{KeepTooShort, TableTooShort, StartNotSafe}
+use Rattle.refusals.specs.Refusals.{keep_too_short, table_too_short, start_not_safe}
 use Rattle.systems.specs.Definitions.{Signature}
 use Rattle.systems.specs.Tests.{ones}
 use Rattle.systems.specs.Finite.{FiniteSystem, safe, safe_states, widest, cell}
@@ -54,9 +54,9 @@ systems_alike L R keep t u e =
 
     judged : Bool → Bool → Bool → List ℕ → Widened
     judged a b c x =
-        cond a (widest_refused (KeepTooShort (bytes_for L.size)) keep x)
-        (cond b (widest_refused (TableTooShort size) keep x)
-        (cond c (widest_refused (StartNotSafe L.start) (packed L.size (safe_states L) keep) x)
+        cond a (widest_refused (keep_too_short (bytes_for L.size)) keep x)
+        (cond b (widest_refused (table_too_short size) keep x)
+        (cond c (widest_refused (start_not_safe L.start) (packed L.size (safe_states L) keep) x)
         (record {
           answer = Ok (record { count = ones (widest L R); start = cell L R (widest L R) L.start R.start });
           keep = packed L.size (safe_states L) keep;

@@ -12,7 +12,7 @@ use lib.ListN.{length, drop, length-replicate}
 use lib.Seq.{take_at}
 use borrow.Author.Tests.{ltb-false}
 use Rattle.refusals.specs.declared.Refusal.{Refusal}
-use Rattle.refusals.specs.declared.Refusal.TheVariants.{LimitExceeded, OutTooShort}
+use Rattle.refusals.specs.Refusals.{limit_exceeded, out_too_short}
 use Rattle.byte_slices.specs.Laid.{Laid, laid}
 use Rattle.byte_slices.specs.Put.{front_laid}
 use Rattle.reader_record.specs.declared.Text.{Text}
@@ -39,12 +39,12 @@ record_alike j z t u e = rw e (go (within_limits j z) (ltb (length t) (length z)
   where
     laid_in : Bool → Bool → List ℕ → Outcome
     laid_in a b x =
-        cond a (cond b (joining.refused (OutTooShort (length z)) x)
-        (record { answer = Ok (length z); out = z ++ drop (length z) x })) (joining.refused LimitExceeded x)
+        cond a (cond b (joining.refused (out_too_short (length z)) x)
+        (record { answer = Ok (length z); out = z ++ drop (length z) x })) (joining.refused limit_exceeded x)
 
     go : (a b : Bool) → ltb (length t) (length z) ≡ b → OutcomesAlike t u (laid_in a b t) (laid_in a b u)
-    go false b q = refused LimitExceeded
-    go true true q = refused (OutTooShort (length z))
+    go false b q = refused limit_exceeded
+    go true true q = refused (out_too_short (length z))
     go true false q = written z (ltb-false (length t) (length z) q)
 
 module _ (left right : List ℕ) where

@@ -1,13 +1,12 @@
 -- Lines, computed.
 use Rattle.std.specs.Prelude.{◌≡◌, refl, [], ◌∷◌}
-use Rattle.refusals.specs.declared.Refusal.TheVariants.{StartNotSafe}
-use Rattle.refusals.specs.Refusals.{rule_broken}
+use Rattle.refusals.specs.Refusals.{start_not_safe, rule_broken}
 use Rattle.reader_record.specs.declared.Direction.TheVariants.{Input, Output}
 use Rattle.byte_slices.specs.Decimal.{ascii, digit, digits, decimal}
 use Rattle.printed_lines.specs.Lines.{spaced, line, refusal_line, direction_mark, channel_line, step_line, step_lines, departure_lines}
 
 -- an unsafe start
-pub refused_17 : refusal_line (StartNotSafe 0) ≡ ascii "REFUSED 17 1 0 0\n"
+pub refused_17 : refusal_line (start_not_safe 0) ≡ ascii "REFUSED 17 1 0 0\n"
 unfolding refusal_line line spaced decimal digits digit
 refused_17 = refl
 

@@ -6,7 +6,7 @@ use Rattle.std.proofs.Math.Option.{Option, none, some}
 use Rattle.std.specs.Prelude.{List, ℕ, Result, Ok, Err}
 use Rattle.std.proofs.Math.ListN.{length}
 use Rattle.refusals.specs.declared.Refusal.{Refusal}
-use Rattle.refusals.specs.declared.Refusal.TheVariants.{LimitExceeded}
+use Rattle.refusals.specs.Refusals.{limit_exceeded}
 use Rattle.two_texts.specs.Two.{two_judged}
 use Rattle.joining.specs.Outcome.{Outcome, joined_record, joined_bytes, join_outcome}
 use Rattle.guarantees.specs.Joining.{Within, Joins}
@@ -30,7 +30,7 @@ module _ (left right : List ℕ) where
       → JoinAnswers left right (join_prints join_room left right)
   unfolding text_printed
   limit_passed e r q = JoinAnswers.limit e never
-      (prints (Err LimitExceeded) ((joining_exactly program_tick left right (zeros join_room)).limit.1 (e, never)))
+      (prints (Err limit_exceeded) ((joining_exactly program_tick left right (zeros join_room)).limit.1 (e, never)))
     where
       never : Within (joined_record program_tick left right) (joined_bytes program_tick left right) → ⊥
       never w =

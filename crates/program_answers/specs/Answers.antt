@@ -6,6 +6,7 @@ use Rattle.std.proofs.Math.Option.{none, some}
 use Rattle.limits.specs.Limits.{keep_limit}
 use Rattle.refusals.specs.declared.Refusal.{Refusal}
 use Rattle.refusals.specs.declared.Refusal.TheVariants as refusal
+use Rattle.refusals.specs.Refusals.{queue_too_short, start_not_safe, limit_exceeded}
 use Rattle.refusals.specs.declared.File.TheVariants.{Left}
 use Rattle.refusals.specs.Answers.{answer_of}
 use Rattle.systems.specs.Definitions.{Implementation, Satisfies, Makes, Allows}
@@ -45,13 +46,13 @@ pub data Answers (left right printed : List ℕ) : Type 1 where
   -- 15: more pairs of states than the program has room for
   too_many : AcceptedText program_tick left → AcceptedText program_tick right → EqualChannels program_tick left right
       → entries < states program_tick left * states program_tick right → printed
-      ≡ refusal_line (refusal.QueueTooShort (states program_tick left * states program_tick right))
+      ≡ refusal_line (queue_too_short (states program_tick left * states program_tick right))
       → Answers left right printed
   -- 17: the left has no implementation
   unsafe : (a : AcceptedText program_tick left) → AcceptedText program_tick right
       → EqualChannels program_tick left right
       → states program_tick left * states program_tick right ≤ entries → (Consistent (meaning program_tick left a) → ⊥)
-      → printed ≡ refusal_line (refusal.StartNotSafe (number program_tick left a (meaning program_tick left a).start))
+      → printed ≡ refusal_line (start_not_safe (number program_tick left a (meaning program_tick left a).start))
       → Answers left right printed
   -- YES: the left has an implementation, and every one satisfies the right; the number is that of the pairs of the
   -- widest table
@@ -97,7 +98,7 @@ pub data JoinAnswers (left right printed : List ℕ) : Type 1 where
   -- 25: the joined text would pass a limit
   limit : none ≡ two_judged program_tick left right
       → (Within (joined_record program_tick left right) (joined_bytes program_tick left right) → ⊥)
-      → printed ≡ refusal_line refusal.LimitExceeded → JoinAnswers left right printed
+      → printed ≡ refusal_line limit_exceeded → JoinAnswers left right printed
   -- a text that joins the two: read with tick length 1, it is satisfied exactly by what satisfies both
   joined : (a : AcceptedText program_tick left) (b : AcceptedText program_tick right)
       → Joins program_tick left right a b printed → JoinAnswers left right printed

@@ -16,7 +16,7 @@ use enumerator::reached::implementation;
 use enumerator::runs::{departure, is_departure};
 use enumerator::safe::{Reading, count_safe, fill_rows, judge_length, states_of};
 use random_texts::part;
-use refusals::Refusal;
+use refusals::{File, Refusal};
 
 // Texts of more states are left out.
 const STATES: usize = 512;
@@ -168,14 +168,14 @@ impl Case<'_, '_> {
         if is_safe(self.rows.left, start) {
             return Ok(());
         }
-        Err(Refusal::StartNotSafe(start))
+        Err(Refusal::StartNotSafe(File::Left, start))
     }
 
     // The search needs an entry of back and one of line for each pair.
     fn judge_queue(&self, z: &Lengths) -> Result<(), Refusal> {
         let pairs = self.rows.two.pairs();
         if z.back < pairs || z.line < pairs {
-            return Err(Refusal::QueueTooShort(pairs));
+            return Err(Refusal::QueueTooShort(File::None, pairs));
         }
         Ok(())
     }
@@ -187,7 +187,7 @@ impl Case<'_, '_> {
         let n = departure(&self.rows, run).unwrap_or(0);
         if z.run < n {
             fill_entries(run, self.seed);
-            return Err(Refusal::RunTooShort(n));
+            return Err(Refusal::RunTooShort(File::None, n));
         }
         Ok(answered(n))
     }
@@ -224,7 +224,7 @@ impl Case<'_, '_> {
     fn judge_table(&self, z: &Lengths) -> Result<(), Refusal> {
         let need = table_length(self.rows.two);
         if z.table < need {
-            return Err(Refusal::TableTooShort(need));
+            return Err(Refusal::TableTooShort(File::None, need));
         }
         Ok(())
     }
@@ -260,7 +260,7 @@ impl Case<'_, '_> {
     // Whether a table of z's length and of a kind is laid out for the two texts.
     fn judge_given(&self, z: &Lengths, kind: Kind) -> Result<(), Refusal> {
         if kind == Kind::OtherHeader || z.table != table_length(self.rows.two) {
-            return Err(Refusal::OtherTable);
+            return Err(Refusal::OtherTable(File::None));
         }
         Ok(())
     }

@@ -5,7 +5,7 @@ use enumerator::numbers::plus;
 use enumerator::packed::{bytes_for, keep_byte, table_length};
 use enumerator::pairs::{PAIRS, Two};
 use random_texts::{part, pick};
-use refusals::Refusal;
+use refusals::{File, Refusal};
 
 // What is lent is the first part of slices of these lengths; back and line have an entry for each pair.
 pub const KEEP_BYTES: usize = 80;
@@ -92,7 +92,7 @@ pub fn fill_entries(s: &mut [u32], seed: u32) {
 fn is_untouched(answer: &Answer) -> bool {
     match answer {
         Ok(_) => false,
-        Err(Refusal::TickOutOfRange(_)) => true,
+        Err(Refusal::TickOutOfRange(..)) => true,
         Err(f) => f.code() < START_NOT_SAFE,
     }
 }
@@ -120,7 +120,7 @@ pub fn is_noise(s: &[u32], seed: u32) -> bool {
 // Back and line are free on success and after 21; else they are as they were lent (SPECIFICATION 13.5).
 pub fn queue_is_right(answer: &Answer, back: &[u32], line: &[u32], seed: u32) -> bool {
     match answer {
-        Ok(_) | Err(Refusal::RunTooShort(_)) => true,
+        Ok(_) | Err(Refusal::RunTooShort(..)) => true,
         Err(_) => is_noise(back, seed) && is_noise(line, seed),
     }
 }
@@ -129,7 +129,7 @@ pub fn queue_is_right(answer: &Answer, back: &[u32], line: &[u32], seed: u32) ->
 pub fn judge_keep(n: usize, k: usize) -> Result<(), Refusal> {
     let need = bytes_for(n);
     if k < need {
-        return Err(Refusal::KeepTooShort(need));
+        return Err(Refusal::KeepTooShort(File::None, need));
     }
     Ok(())
 }

@@ -18,7 +18,7 @@ const OTHER_MARK: usize = 8;
 // out of range, which is judged before, the enumerator knows.
 fn is_known(answer: &Answer, p: &Pen) -> bool {
     match (answer, p.known) {
-        (Err(Refusal::TickOutOfRange(_)), _) => true,
+        (Err(Refusal::TickOutOfRange(..)), _) => true,
         (Err(f), None) => OTHER_MARK <= f.code(),
         (Err(f), Some(known)) => *f == known,
         (Ok(_), known) => known.is_none(),

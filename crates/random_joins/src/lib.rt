@@ -13,7 +13,7 @@ use random_calls::tally::{Answer, Tally, add, answered};
 use random_calls::texts::Texts;
 use random_texts::pick;
 use reader_record::Text;
-use refusals::Refusal;
+use refusals::{File, Refusal};
 
 // What every slice is lent with: a byte that no joined text has.
 const FILLING: u8 = b'#';
@@ -160,12 +160,17 @@ impl Accepted<'_, '_> {
         self.count_joined(tally);
         self.exact_case(&out, n, tally);
         let less = n.wrapping_sub(1);
-        refused_case(self.texts, Refusal::OutTooShort(n), less, tally);
+        refused_case(self.texts, Refusal::OutTooShort(File::None, n), less, tally);
     }
 
     fn all(&self, seed: u32, tally: &mut Tally) {
         if self.both().passes_limit() {
-            refused_case(self.texts, Refusal::LimitExceeded, room(seed), tally);
+            refused_case(
+                self.texts,
+                Refusal::LimitExceeded(File::None),
+                room(seed),
+                tally,
+            );
             return;
         }
         self.written_cases(tally);

@@ -20,7 +20,7 @@ use Rattle.reader_lists.specs.State.{no_text, state_of, next_token, with_init}
 use Rattle.reader_lists.specs.Lists.{items}
 use Rattle.reader.specs.Faults.{refusal_of}
 use Rattle.refusals.specs.declared.Refusal.{Refusal}
-use Rattle.refusals.specs.declared.Refusal.TheVariants.{TickOutOfRange}
+use Rattle.refusals.specs.Refusals.{tick_out_of_range}
 use Rattle.limits.specs.Limits.{location_limit, largest_text, tick_allowed}
 
 -- nothing is read and nothing is declared
@@ -119,4 +119,4 @@ module _ (period : ℕ) where
       let read = answer (read_whole s) in
       if tick_allowed period then
       if nat_lt largest_text (length s) then Err (refusal_of TooLong) else read
-      else Err (TickOutOfRange period)
+      else Err (tick_out_of_range period)

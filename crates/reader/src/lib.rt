@@ -200,7 +200,7 @@ pub fn parse(period: usize, text: &[u8]) -> Result<Text, Refusal>
     ensures { result ≡ read_text period text.now }
 {
     if !limits::is_tick_length(period) {
-        return Err(Refusal::TickOutOfRange(period));
+        return Err(Refusal::TickOutOfRange(File::None, period));
     }
     if LARGEST_TEXT < text.len() {
         return Err(refusal_of(Fault::TooLong));

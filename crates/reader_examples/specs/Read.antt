@@ -3,7 +3,8 @@
 use Rattle.std.specs.Prelude.{◌≡◌, refl, List, ℕ, Ok, Err}
 use Rattle.reader_record.specs.declared.Text.{Text}
 use Rattle.refusals.specs.declared.File.TheVariants.{Left}
-use Rattle.refusals.specs.declared.Refusal.TheVariants.{ConstantTooLarge, TickOutOfRange}
+use Rattle.refusals.specs.declared.Refusal.TheVariants.{ConstantTooLarge}
+use Rattle.refusals.specs.Refusals.{tick_out_of_range}
 use Rattle.reader.specs.Reading.{read_text}
 use Rattle.reader_examples.specs.Opened.{opened}
 use Rattle.reader_examples.specs.Texts.{post, rearm, woken, overridden, too_late, early, strict, loose, sheet, hush, idle, spare, twice, stay_or_go, reset_or_not, late_or_not, woken_twice}
@@ -93,7 +94,7 @@ sheet_read = record { at_1000 = refl; at_2000 = refl; at_60000 = refl }
 -- at tick length 1 the first of the two constants is too large, and 0 is no tick length
 pub record SheetRefused : Type 0 where
   pub at_1 : read_text shortest_tick sheet ≡ Err (ConstantTooLarge Left 78)
-  pub at_0 : read_text 0 sheet ≡ Err (TickOutOfRange 0)
+  pub at_0 : read_text 0 sheet ≡ Err (tick_out_of_range 0)
 
 pub sheet_refused : SheetRefused
 unfolding opened

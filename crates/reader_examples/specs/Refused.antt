@@ -5,7 +5,8 @@ use Prim.Native.Char.{code}
 use Prim.Native.String.{String}
 use Rattle.refusals.specs.declared.File.TheVariants.{Left}
 use Rattle.refusals.specs.declared.Refusal.{Refusal}
-use Rattle.refusals.specs.declared.Refusal.TheVariants.{TextTooLong, Misfit, NameTooLong, DeclaredBefore, UnknownName, ConstantTooLarge, TooManyItems, OtherMark, TickOutOfRange}
+use Rattle.refusals.specs.declared.Refusal.TheVariants.{TextTooLong, Misfit, NameTooLong, DeclaredBefore, UnknownName, ConstantTooLarge, TooManyItems, OtherMark}
+use Rattle.refusals.specs.Refusals.{tick_out_of_range}
 use Rattle.refusals.specs.Answers.{answer_of}
 use Rattle.reader_tokens.specs.Scan.{bytes}
 use Rattle.reader.specs.Reading.{read_text}
@@ -231,11 +232,11 @@ strict =
 -- 13.4)
 pub record Lengths : Type 0 where
   -- 24 below and above what is allowed
-  pub none : RefusesAt 0 "" (TickOutOfRange 0)
-  pub above : RefusesAt (suc longest_tick) "" (TickOutOfRange (suc longest_tick))
+  pub none : RefusesAt 0 "" (tick_out_of_range 0)
+  pub above : RefusesAt (suc longest_tick) "" (tick_out_of_range (suc longest_tick))
   pub before_one :
       read_text 0 (replicate (suc largest_text) (code " "))
-      ≡ Err (TickOutOfRange 0)
+      ≡ Err (tick_out_of_range 0)
   -- the largest constant at 2, 3 and 60,000 milliseconds, and the one above it
   pub halves : AcceptsAt 2 "process P(){clock x;state A{x<=2000},B;init B;}system P;"
   pub halves_over : RefusesAt 2 "process P(){clock x;state A{x<=2001},B;init B;}system P;" (ConstantTooLarge Left 31)

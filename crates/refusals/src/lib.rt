@@ -27,7 +27,8 @@ impl File {
     }
 }
 
-// A variant for each code.
+// A variant for each code, with the file that it concerns. The operations give codes 13 to 16, 18 to 21 and 24 to 26
+// with no file, and 17 with the left one (SPECIFICATION 13.1, 13.2).
 #[derive(Clone, Copy, PartialEq, Eq, Debug)]
 pub enum Refusal {
     // 1: a text over its limit (SPECIFICATION 4.5)
@@ -55,33 +56,33 @@ pub enum Refusal {
     // 12: a channel that the two texts do not have alike (SPECIFICATION 9.1)
     UnmatchedChannel(File, usize),
     // 13: too few bytes of keep (SPECIFICATION 8.4)
-    KeepTooShort(usize),
+    KeepTooShort(File, usize),
     // 14: too few bytes for the widest table (SPECIFICATION 12.6)
-    TableTooShort(usize),
+    TableTooShort(File, usize),
     // 15: too few entries of back or of line (SPECIFICATION 12.4)
-    QueueTooShort(usize),
+    QueueTooShort(File, usize),
     // 16: a given table that is not laid out for these two texts (SPECIFICATION 11.1, 11.2)
-    OtherTable,
+    OtherTable(File),
     // 17: a left text whose start is not among its safe states (SPECIFICATION 8.3)
-    StartNotSafe(usize),
+    StartNotSafe(File, usize),
     // 18: a given table without the pair of starts (SPECIFICATION 11.5)
-    StartPairNotSet(usize, usize),
+    StartPairNotSet(File, usize, usize),
     // 19: a pair in a given table that its s or its t alone rules out (SPECIFICATION 11.5)
-    PairNotAllowed(usize, usize),
+    PairNotAllowed(File, usize, usize),
     // 20: a pair in a given table that fails the rules for a step (SPECIFICATION 11.5)
-    RuleBroken(Step, usize),
+    RuleBroken(File, Step, usize),
     // 21: a departure that is longer than the run slice (SPECIFICATION 12.4)
-    RunTooShort(usize),
+    RunTooShort(File, usize),
     // 22: a reachable state in which an output and a tick are both possible (SPECIFICATION 12.9)
     OutputBesideTick(File, usize, usize),
     // 23: a reachable state in which neither is possible (SPECIFICATION 12.9)
     NeitherPossible(File, usize),
     // 24: a tick length that is not allowed (SPECIFICATION 4.7)
-    TickOutOfRange(usize),
+    TickOutOfRange(File, usize),
     // 25: two texts whose joined text would pass a limit (SPECIFICATION 18.8)
-    LimitExceeded,
+    LimitExceeded(File),
     // 26: too few bytes for the joined text (SPECIFICATION 18.9)
-    OutTooShort(usize),
+    OutTooShort(File, usize),
 }
 
 impl Refusal {
@@ -90,7 +91,7 @@ impl Refusal {
         requires { (width ≤ state_limit) × ((s < state_limit) × (t < width)) }
         ensures { result ≡ rule_broken width step s t }
     {
-        Refusal::RuleBroken(step, s * width + t)
+        Refusal::RuleBroken(File::None, step, s * width + t)
     }
 
     pub fn code(self) -> usize
@@ -109,20 +110,20 @@ impl Refusal {
             Refusal::InputWithoutMove(..) => 10,
             Refusal::TwoEdges(..) => 11,
             Refusal::UnmatchedChannel(..) => 12,
-            Refusal::KeepTooShort(_) => 13,
-            Refusal::TableTooShort(_) => 14,
-            Refusal::QueueTooShort(_) => 15,
-            Refusal::OtherTable => 16,
-            Refusal::StartNotSafe(_) => 17,
+            Refusal::KeepTooShort(..) => 13,
+            Refusal::TableTooShort(..) => 14,
+            Refusal::QueueTooShort(..) => 15,
+            Refusal::OtherTable(_) => 16,
+            Refusal::StartNotSafe(..) => 17,
             Refusal::StartPairNotSet(..) => 18,
             Refusal::PairNotAllowed(..) => 19,
             Refusal::RuleBroken(..) => 20,
-            Refusal::RunTooShort(_) => 21,
+            Refusal::RunTooShort(..) => 21,
             Refusal::OutputBesideTick(..) => 22,
             Refusal::NeitherPossible(..) => 23,
-            Refusal::TickOutOfRange(_) => 24,
-            Refusal::LimitExceeded => 25,
-            Refusal::OutTooShort(_) => 26,
+            Refusal::TickOutOfRange(..) => 24,
+            Refusal::LimitExceeded(_) => 25,
+            Refusal::OutTooShort(..) => 26,
         }
     }
 
@@ -142,10 +143,20 @@ impl Refusal {
             | Refusal::InputWithoutMove(file, _, _)
             | Refusal::TwoEdges(file, _, _)
             | Refusal::UnmatchedChannel(file, _)
+            | Refusal::KeepTooShort(file, _)
+            | Refusal::TableTooShort(file, _)
+            | Refusal::QueueTooShort(file, _)
+            | Refusal::OtherTable(file)
+            | Refusal::StartNotSafe(file, _)
+            | Refusal::StartPairNotSet(file, _, _)
+            | Refusal::PairNotAllowed(file, _, _)
+            | Refusal::RuleBroken(file, _, _)
+            | Refusal::RunTooShort(file, _)
             | Refusal::OutputBesideTick(file, _, _)
-            | Refusal::NeitherPossible(file, _) => file,
-            Refusal::StartNotSafe(_) => File::Left,
-            _ => File::None,
+            | Refusal::NeitherPossible(file, _)
+            | Refusal::TickOutOfRange(file, _)
+            | Refusal::LimitExceeded(file)
+            | Refusal::OutTooShort(file, _) => file,
         }
     }
 
@@ -166,16 +177,16 @@ impl Refusal {
             | Refusal::OutputBesideTick(_, state, _)
             | Refusal::NeitherPossible(_, state) => state,
             Refusal::UnmatchedChannel(_, channel) => channel,
-            Refusal::KeepTooShort(bytes)
-            | Refusal::TableTooShort(bytes)
-            | Refusal::OutTooShort(bytes) => bytes,
-            Refusal::QueueTooShort(entries) => entries,
-            Refusal::StartNotSafe(start) => start,
-            Refusal::StartPairNotSet(s, _) | Refusal::PairNotAllowed(s, _) => s,
-            Refusal::RuleBroken(step, _) => step.number,
-            Refusal::RunTooShort(steps) => steps,
-            Refusal::TickOutOfRange(period) => period,
-            Refusal::TextTooLong(_) | Refusal::OtherTable | Refusal::LimitExceeded => 0,
+            Refusal::KeepTooShort(_, bytes)
+            | Refusal::TableTooShort(_, bytes)
+            | Refusal::OutTooShort(_, bytes) => bytes,
+            Refusal::QueueTooShort(_, entries) => entries,
+            Refusal::StartNotSafe(_, start) => start,
+            Refusal::StartPairNotSet(_, s, _) | Refusal::PairNotAllowed(_, s, _) => s,
+            Refusal::RuleBroken(_, step, _) => step.number,
+            Refusal::RunTooShort(_, steps) => steps,
+            Refusal::TickOutOfRange(_, period) => period,
+            Refusal::TextTooLong(_) | Refusal::OtherTable(_) | Refusal::LimitExceeded(_) => 0,
         }
     }
 
@@ -186,14 +197,13 @@ impl Refusal {
             Refusal::InputWithoutMove(_, _, channel)
             | Refusal::TwoEdges(_, _, channel)
             | Refusal::OutputBesideTick(_, _, channel) => channel,
-            Refusal::StartPairNotSet(_, t) | Refusal::PairNotAllowed(_, t) => t,
-            Refusal::RuleBroken(_, pair) => pair,
+            Refusal::StartPairNotSet(_, _, t) | Refusal::PairNotAllowed(_, _, t) => t,
+            Refusal::RuleBroken(_, _, pair) => pair,
             _ => 0,
         }
     }
 
-    // The same refusal for another file: a text is read as the only one, and may be the right one of two. A refusal that
-    // carries no file stays as it is.
+    // The same refusal for another file: a text is read as the only one, and may be the right one of two.
     pub fn in_file(self, file: File) -> Refusal
         ensures { result ≡ in_file file self }
     {
@@ -212,11 +222,22 @@ impl Refusal {
             ),
             Refusal::TwoEdges(_, state, channel) => Refusal::TwoEdges(file, state, channel),
             Refusal::UnmatchedChannel(_, channel) => Refusal::UnmatchedChannel(file, channel),
+            Refusal::KeepTooShort(_, bytes) => Refusal::KeepTooShort(file, bytes),
+            Refusal::TableTooShort(_, bytes) => Refusal::TableTooShort(file, bytes),
+            Refusal::QueueTooShort(_, entries) => Refusal::QueueTooShort(file, entries),
+            Refusal::OtherTable(_) => Refusal::OtherTable(file),
+            Refusal::StartNotSafe(_, start) => Refusal::StartNotSafe(file, start),
+            Refusal::StartPairNotSet(_, s, t) => Refusal::StartPairNotSet(file, s, t),
+            Refusal::PairNotAllowed(_, s, t) => Refusal::PairNotAllowed(file, s, t),
+            Refusal::RuleBroken(_, step, pair) => Refusal::RuleBroken(file, step, pair),
+            Refusal::RunTooShort(_, steps) => Refusal::RunTooShort(file, steps),
             Refusal::OutputBesideTick(_, state, channel) => Refusal::OutputBesideTick(
                 file, state, channel,
             ),
             Refusal::NeitherPossible(_, state) => Refusal::NeitherPossible(file, state),
-            other => other,
+            Refusal::TickOutOfRange(_, period) => Refusal::TickOutOfRange(file, period),
+            Refusal::LimitExceeded(_) => Refusal::LimitExceeded(file),
+            Refusal::OutTooShort(_, bytes) => Refusal::OutTooShort(file, bytes),
         }
     }
 }

@@ -13,7 +13,7 @@ use borrow.Author.Tests.{lt-ltb, le-ltb}
 use Rattle.systems.specs.Tests.{ones}
 use Rattle.systems.specs.Finite as finite
 use Rattle.refusals.specs.declared.Refusal.{Refusal}
-use Rattle.refusals.specs.declared.Refusal.TheVariants.{KeepTooShort}
+use Rattle.refusals.specs.Refusals.{keep_too_short}
 use Rattle.reader_record.specs.declared.Text.{Text}
 use Rattle.bitmaps.specs.Bits.{tab_from, bit_at}
 use Rattle.bitmaps.specs.Packed.{bytes_for, Packed, packed, Bitmap}
@@ -127,7 +127,7 @@ module _ (period : ℕ) (s m h m' h' k : List ℕ) where
       bytes_are : need ≡ bytes_for (state_count x.text)
       bytes_are = n ∙ ap bytes_for states
 
-      pub safe_short : length k < need → outcome (Err (KeepTooShort need)) k ≡ safe_outcome period s k
+      pub safe_short : length k < need → outcome (Err (keep_too_short need)) k ≡ safe_outcome period s k
       unfolding kept_outcome
       safe_short l =
           let q : ltb (length k) (bytes_for (state_count x.text)) ≡ true =

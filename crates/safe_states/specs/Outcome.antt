@@ -2,7 +2,7 @@
 use Rattle.std.specs.Prelude.{true, false, List, ℕ, ltb, length, Result, Ok, Err}
 use Rattle.systems.specs.Tests.{at, ones}
 use Rattle.refusals.specs.declared.Refusal.{Refusal}
-use Rattle.refusals.specs.declared.Refusal.TheVariants.{KeepTooShort}
+use Rattle.refusals.specs.Refusals.{keep_too_short}
 use Rattle.reader_record.specs.declared.Text.{Text}
 use Rattle.bitmaps.specs.Packed.{bytes_for, packed}
 use Rattle.clocks.specs.States.{state_count, start_state}
@@ -30,7 +30,7 @@ found_outcome t k = record {
 -- code 13: keep too short (SPECIFICATION 13.1)
 unfoldable pub kept_outcome : Text → List ℕ → Outcome
 kept_outcome t k = elim (ltb (length k) (bytes_for (state_count t)))
-    [ true ↦ refused (KeepTooShort (bytes_for (state_count t))) k | false ↦ found_outcome t k ]
+    [ true ↦ refused (keep_too_short (bytes_for (state_count t))) k | false ↦ found_outcome t k ]
 
 -- codes 24 and 1 to 11 come before it (SPECIFICATION 13.4)
 unfoldable pub answered : Result Reading Refusal → List ℕ → Outcome

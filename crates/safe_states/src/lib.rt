@@ -10,7 +10,7 @@ ghost use Rattle.safe_states.specs.Ready.{Ready};
 use clocks::Ranges;
 use clocks_read::Measured;
 use reader_record::Text;
-use refusals::Refusal;
+use refusals::{File, Refusal};
 
 // How many safe states there are, and whether the start is one (SPECIFICATION 12.2).
 #[derive(Clone, Copy, PartialEq, Eq, Debug)]
@@ -54,7 +54,7 @@ pub fn safe_in(
     let n = reading.states;
     let need = bitmaps::bytes_for(n);
     if keep.len() < need {
-        return Err(Refusal::KeepTooShort(need));
+        return Err(Refusal::KeepTooShort(File::None, need));
     }
     Ok(found(reading.text, m.ranges, n, moves, holds, keep))
 }

@@ -9,7 +9,7 @@ use borrow.Author.Tests.{lt-ltb, le-ltb}
 use lib.Dec.{ltb}
 use lib.ListN.{length, take, drop}
 use Rattle.refusals.specs.declared.Refusal.{Refusal}
-use Rattle.refusals.specs.declared.Refusal.TheVariants.{KeepTooShort, TableTooShort, OtherTable, StartNotSafe, StartPairNotSet}
+use Rattle.refusals.specs.Refusals.{keep_too_short, table_too_short, other_table, start_not_safe, start_pair_not_set}
 use Rattle.systems.specs.Tests.{ones}
 use Rattle.systems.specs.Definitions.{Signature}
 use Rattle.systems.specs.Finite.{FiniteSystem, safe, safe_states, widest, cell}
@@ -37,7 +37,7 @@ use Rattle.tables.specs.Slices.{Checks, Widens}
 
 checked_of : (w ls rs : ℕ) (b : Bool) (f : Result ⊤ FailedPair) (m : ℕ)
     → check_of w ls rs (cond b (answer_of f m) (Err StartNotSet)) ≡ cond (not b)
-    (Err (StartPairNotSet ls rs)) (scanned w m f)
+    (Err (start_pair_not_set ls rs)) (scanned w m f)
 unfolding refusal_of answer_of scanned
 checked_of w ls rs true (Ok passed) m = refl
 checked_of w ls rs true (Err (NotAllowedAt s t)) m = refl
@@ -63,19 +63,19 @@ module _ {A : Signature} (L R : FiniteSystem A) (keep table : List ℕ) where
       let kept = packed n (safe_states L) keep in
       let related = set_at w (drop (header_bytes w n) table) in
       let lowest = scanned w (ones (denoted n w (drop (header_bytes w n) table))) (pairs_judged L R related) in
-      cond (ltb (length keep) (bytes_for n)) (checked (Err (KeepTooShort (bytes_for n))) keep)
-      (cond (not (fits w n table)) (checked (Err OtherTable) keep)
-      (cond (not (safe L ls)) (checked (Err (StartNotSafe ls)) kept)
-      (cond (not (related ls rs)) (checked (Err (StartPairNotSet ls rs)) kept)
+      cond (ltb (length keep) (bytes_for n)) (checked (Err (keep_too_short (bytes_for n))) keep)
+      (cond (not (fits w n table)) (checked (Err other_table) keep)
+      (cond (not (safe L ls)) (checked (Err (start_not_safe ls)) kept)
+      (cond (not (related ls rs)) (checked (Err (start_pair_not_set ls rs)) kept)
       (checked lowest kept))))
 
   unfoldable widest_by : ℕ → ℕ → ℕ → Widened
   widest_by n w ls =
       let kept = packed n (safe_states L) keep in
       let pairs = widest L R in
-      cond (ltb (length keep) (bytes_for n)) (widest_refused (KeepTooShort (bytes_for n)) keep table)
-      (cond (ltb (length table) (table_bytes w n)) (widest_refused (TableTooShort (table_bytes w n)) keep table)
-      (cond (not (safe L ls)) (widest_refused (StartNotSafe ls) kept table)
+      cond (ltb (length keep) (bytes_for n)) (widest_refused (keep_too_short (bytes_for n)) keep table)
+      (cond (ltb (length table) (table_bytes w n)) (widest_refused (table_too_short (table_bytes w n)) keep table)
+      (cond (not (safe L ls)) (widest_refused (start_not_safe ls) kept table)
       (widened (Ok (record { count = ones pairs; start = cell L R pairs L.start R.start })) kept
       (table_file n w pairs ++ drop (table_bytes w n) table))))
 
@@ -130,12 +130,12 @@ is_short {n} {needed} {k} z short = lt-ltb k n (rw z at short)
 module _ {sides : Sides} {inputs : List Bool} {lm rm lh rh keep : List ℕ} (table : List ℕ) {needed : ℕ}
     (z : needed ≡ bytes_for sides.left_states) where
   pub check_keep_short : length keep < needed
-      → Checks sides inputs lm rm lh rh keep table (checked (Err (KeepTooShort needed)) keep)
+      → Checks sides inputs lm rm lh rh keep table (checked (Err (keep_too_short needed)) keep)
   unfolding check_by
   check_keep_short h A L R D = rw z (rw (is_short z h) refl ∙ sym (check_is D keep table))
 
   module _ (long : needed ≤ length keep) {b : Bool} (g : b ≡ fits sides.right_states sides.left_states table) where
-    pub check_other : b ≡ false → Checks sides inputs lm rm lh rh keep table (checked (Err OtherTable) keep)
+    pub check_other : b ≡ false → Checks sides inputs lm rm lh rh keep table (checked (Err other_table) keep)
     unfolding check_by
     check_other n A L R D =
         let k : fits sides.right_states sides.left_states table ≡ false = sym g ∙ n in
@@ -144,7 +144,7 @@ module _ {sides : Sides} {inputs : List Bool} {lm rm lh rh keep : List ℕ} (tab
     module _ (n : b ≡ true) {lm' keep' : List ℕ} {start : Bool} (P : Prepared sides inputs lh lm lm' keep keep' start)
       where
         pub check_not_safe : start ≡ false
-            → Checks sides inputs lm rm lh rh keep table (checked (Err (StartNotSafe sides.left_start)) keep')
+            → Checks sides inputs lm rm lh rh keep table (checked (Err (start_not_safe sides.left_start)) keep')
         unfolding check_by
         check_not_safe s A L R D =
             let fitting : fits sides.right_states sides.left_states table ≡ true = sym g ∙ n in
@@ -166,14 +166,14 @@ module _ {sides : Sides} {inputs : List Bool} {lm rm lh rh keep : List ℕ} (tab
             let fitting : fits w sides.left_states table ≡ true = sym g ∙ n in
             let same : set_at w raster L.start R.start ≡ set_at w raster ls rs =
             ap (λ (x : ℕ). set_at w raster x R.start) D.left_start ∙ ap (set_at w raster ls) D.right_start in
-            let answered : check_of w ls rs r ≡ cond (not (set_at w raster ls rs)) (Err (StartPairNotSet ls rs))
+            let answered : check_of w ls rs r ≡ cond (not (set_at w raster ls rs)) (Err (start_pair_not_set ls rs))
             (scanned w count found) =
             ap (check_of w ls rs) (e ∙ ap (raster_answer keep' rh lm' rm sides) q
             ∙ raster_answered L R (prepared_systems D lm' keep keep' start P (rw z at long)) raster
             ∙ ap (λ (x : Bool). cond x (answer_of found count) (Err StartNotSet)) same)
             ∙ checked_of w ls rs (set_at w raster ls rs) found count in
             rw (answered, is_kept D P)
-            (cond_record (not (set_at w raster ls rs)) (Err (StartPairNotSet ls rs))
+            (cond_record (not (set_at w raster ls rs)) (Err (start_pair_not_set ls rs))
             (scanned w count found) (packed sides.left_states (safe_states L) keep)
             ∙ rw (not_short z long, fitting, is_safe D P true s) refl ∙ sym (check_is D keep table))
 
@@ -181,14 +181,14 @@ module _ {sides : Sides} {inputs : List Bool} {lm rm lh rh keep : List ℕ} (tab
 module _ {sides : Sides} {inputs : List Bool} {lm rm lh rh keep table : List ℕ} {needed : ℕ}
     (y : needed ≡ bytes_for sides.left_states) where
   pub widest_keep_short : length keep < needed
-      → Widens sides inputs lm rm lh rh keep table (widened (Err (KeepTooShort needed)) keep table)
+      → Widens sides inputs lm rm lh rh keep table (widened (Err (keep_too_short needed)) keep table)
   unfolding widest_by
   widest_keep_short h A L R D = rw y (rw (is_short y h) refl ∙ sym (widest_is D keep table))
 
   module _ (long : needed ≤ length keep) {size : ℕ} (z : size ≡ table_bytes sides.right_states sides.left_states)
     where
       pub widest_table_short : length table < size
-          → Widens sides inputs lm rm lh rh keep table (widened (Err (TableTooShort size)) keep table)
+          → Widens sides inputs lm rm lh rh keep table (widened (Err (table_too_short size)) keep table)
       unfolding widest_by
       widest_table_short h A L R D =
           rw z (rw (not_short y long, is_short z h) refl ∙ sym (widest_is D keep table))
@@ -196,7 +196,7 @@ module _ {sides : Sides} {inputs : List Bool} {lm rm lh rh keep table : List ℕ
       module _ (room : size ≤ length table) {lm' keep' : List ℕ} {start : Bool}
           (P : Prepared sides inputs lh lm lm' keep keep' start) where
         pub widest_not_safe : start ≡ false
-            → Widens sides inputs lm rm lh rh keep table (widened (Err (StartNotSafe sides.left_start)) keep' table)
+            → Widens sides inputs lm rm lh rh keep table (widened (Err (start_not_safe sides.left_start)) keep' table)
         unfolding widest_by
         widest_not_safe s A L R D =
             rw (is_kept D P) (rw (not_short y long, not_short z room, is_safe D P false s) refl

@@ -2,15 +2,14 @@
 use Rattle.std.specs.Prelude.{◌≡◌, ℕ, ◌<◌, Result, Ok, Err}
 use Rattle.steps.specs.declared.Step.{Step}
 use Rattle.refusals.specs.declared.Refusal.{Refusal}
-use Rattle.refusals.specs.declared.Refusal.TheVariants.{StartPairNotSet, PairNotAllowed}
-use Rattle.refusals.specs.Refusals.{rule_broken}
+use Rattle.refusals.specs.Refusals.{start_pair_not_set, pair_not_allowed, rule_broken}
 use Rattle.tables_whole.specs.declared.TableFault.{TableFault}
 use Rattle.tables_whole.specs.declared.TableFault.TheVariants.{StartNotSet, NotAllowed, Broken}
 
 -- what a raster is refused for, as the operation's refusal
 unfoldable pub refusal_of : ℕ → ℕ → ℕ → TableFault → Refusal
-refusal_of w ls rs StartNotSet = StartPairNotSet ls rs
-refusal_of w ls rs (NotAllowed s t) = PairNotAllowed s t
+refusal_of w ls rs StartNotSet = start_pair_not_set ls rs
+refusal_of w ls rs (NotAllowed s t) = pair_not_allowed s t
 refusal_of w ls rs (Broken step s t) = rule_broken w step s t
 
 -- the answer about a raster as the operation's

@@ -2,8 +2,7 @@
 -- afterwards, for all contents and lengths (SPECIFICATION 12.5, 12.6, 13.3, 13.5).
 use Rattle.std.specs.Prelude.{not, cond, List, ◌++◌, ℕ, ltb, length, drop, Result, Ok, Err, ⊤}
 use Rattle.refusals.specs.declared.Refusal.{Refusal}
-use Rattle.refusals.specs.declared.Refusal.TheVariants.{KeepTooShort, TableTooShort, OtherTable, StartNotSafe, StartPairNotSet, PairNotAllowed}
-use Rattle.refusals.specs.Refusals.{rule_broken}
+use Rattle.refusals.specs.Refusals.{keep_too_short, table_too_short, other_table, start_not_safe, start_pair_not_set, pair_not_allowed, rule_broken}
 use Rattle.systems.specs.Tests.{ones}
 use Rattle.systems.specs.Definitions.{Signature}
 use Rattle.systems.specs.Finite.{FiniteSystem, safe, safe_states, widest, cell}
@@ -29,7 +28,7 @@ check_refused r keep = record { answer = Err r; keep = keep }
 -- the right states
 unfoldable pub scanned : ℕ → ℕ → Result ⊤ FailedPair → Result ℕ Refusal
 scanned width count (Ok passed) = Ok count
-scanned width count (Err (NotAllowedAt s t)) = Err (PairNotAllowed s t)
+scanned width count (Err (NotAllowedAt s t)) = Err (pair_not_allowed s t)
 scanned width count (Err (BrokenAt step s t)) = Err (rule_broken width step s t)
 
 -- The check of a table for L, the left, and R, the right: 13, 16, 17, 18 in that order, then 19 and 20 by pair. From 17
@@ -41,10 +40,10 @@ check_systems L R keep table =
     let raster = drop (header_bytes R.size L.size) table in
     let related = set_at R.size raster in
     let lowest = scanned R.size (ones (denoted L.size R.size raster)) (pairs_judged L R related) in
-    cond (ltb (length keep) needed) (check_refused (KeepTooShort needed) keep)
-    (cond (not (fits R.size L.size table)) (check_refused OtherTable keep)
-    (cond (not (safe L L.start)) (check_refused (StartNotSafe L.start) kept)
-    (cond (not (related L.start R.start)) (check_refused (StartPairNotSet L.start R.start) kept)
+    cond (ltb (length keep) needed) (check_refused (keep_too_short needed) keep)
+    (cond (not (fits R.size L.size table)) (check_refused other_table keep)
+    (cond (not (safe L L.start)) (check_refused (start_not_safe L.start) kept)
+    (cond (not (related L.start R.start)) (check_refused (start_pair_not_set L.start R.start) kept)
     (record { answer = lowest; keep = kept }))))
 
 -- what making the widest table promises: its answer, and keep and the table afterwards
@@ -65,9 +64,9 @@ widest_systems L R keep table =
     let kept = packed L.size (safe_states L) keep in
     let size = table_bytes R.size L.size in
     let pairs = widest L R in
-    cond (ltb (length keep) needed) (widest_refused (KeepTooShort needed) keep table)
-    (cond (ltb (length table) size) (widest_refused (TableTooShort size) keep table)
-    (cond (not (safe L L.start)) (widest_refused (StartNotSafe L.start) kept table)
+    cond (ltb (length keep) needed) (widest_refused (keep_too_short needed) keep table)
+    (cond (ltb (length table) size) (widest_refused (table_too_short size) keep table)
+    (cond (not (safe L L.start)) (widest_refused (start_not_safe L.start) kept table)
     (record {
       answer = Ok (record { count = ones pairs; start = cell L R pairs L.start R.start });
       keep = kept;

@@ -199,7 +199,7 @@ fn put_searched(rt: &impl Print, answer: Result<usize, Refusal>) -> io::Result<b
         }
         Err(f) => {
             put_refused(rt, &f)?;
-            Ok(!matches!(f, Refusal::RunTooShort(_)))
+            Ok(!matches!(f, Refusal::RunTooShort(..)))
         }
     }
 }

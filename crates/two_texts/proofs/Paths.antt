@@ -10,10 +10,10 @@ use native.Mathlib.Omega.{arith}
 use lib.ListN.{length}
 use borrow.Author.Tests.{lt-ltb, le-ltb}
 use Rattle.refusals.specs.declared.Refusal.{Refusal}
-use Rattle.refusals.specs.declared.Refusal.TheVariants.{TextTooLong, TickOutOfRange}
+use Rattle.refusals.specs.declared.Refusal.TheVariants.{TextTooLong}
 use Rattle.refusals.specs.declared.File.{File}
 use Rattle.refusals.specs.declared.File.TheVariants.{Left, Right}
-use Rattle.refusals.specs.Refusals.{in_file}
+use Rattle.refusals.specs.Refusals.{in_file, tick_out_of_range}
 use Rattle.refusals.specs.Answers.{answer_of}
 use Rattle.reader_record.specs.declared.Text.{Text}
 use Rattle.reader_record.specs.Formed.{WellFormed}
@@ -307,9 +307,9 @@ module _ (period : ℕ) where
     loads_refused lm rm lh rh f t j e = record { judged = j ∙ refusal_of f t e; loaded = λ c. rw e tt }
 
     pub tick_refused : (lm rm lh rh : List ℕ) (t : Result TwoTexts Refusal) → tick_allowed period ≡ false
-        → t ≡ Err (TickOutOfRange period) → Loads period left right lm rm lh rh t
+        → t ≡ Err (tick_out_of_range period) → Loads period left right lm rm lh rh t
     unfolding two_judged texts_judged channels_judged tick_judged or_else
-    tick_refused lm rm lh rh t h e = loads_refused lm rm lh rh (TickOutOfRange period) t (rw h) e
+    tick_refused lm rm lh rh t h e = loads_refused lm rm lh rh (tick_out_of_range period) t (rw h) e
 
     module _ (allowed : tick_allowed period ≡ true) where
       pub left_too_long : (lm rm lh rh : List ℕ) (t : Result TwoTexts Refusal) → largest_text < length left

@@ -3,10 +3,10 @@
 use Rattle.std.specs.Prelude.{◌≡◌, refl, cond, List, ℕ, ltb, length, Result, Ok, Err, ⊤}
 use Rattle.std.proofs.Math.Option.{Option, none, some}
 use Rattle.refusals.specs.declared.Refusal.{Refusal}
-use Rattle.refusals.specs.declared.Refusal.TheVariants.{TextTooLong, TickOutOfRange}
+use Rattle.refusals.specs.declared.Refusal.TheVariants.{TextTooLong}
 use Rattle.refusals.specs.declared.File.{File}
 use Rattle.refusals.specs.declared.File.TheVariants.{Left, Right}
-use Rattle.refusals.specs.Refusals.{in_file}
+use Rattle.refusals.specs.Refusals.{in_file, tick_out_of_range}
 use Rattle.refusals.specs.Answers.{answer_of}
 use Rattle.reader_record.specs.declared.Text.{Text}
 use Rattle.systems.specs.Definitions.{Input}
@@ -20,7 +20,7 @@ use Rattle.limits.specs.Limits.{largest_text, tick_allowed}
 
 -- code 24 (SPECIFICATION 4.7)
 unfoldable pub tick_judged : ℕ → Option Refusal
-tick_judged period = cond (tick_allowed period) none (some (TickOutOfRange period))
+tick_judged period = cond (tick_allowed period) none (some (tick_out_of_range period))
 
 -- code 1, with the mark of the file (SPECIFICATION 4.3, 13.2)
 unfoldable pub too_long_in : File → List ℕ → Option Refusal

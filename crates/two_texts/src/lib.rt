@@ -161,7 +161,7 @@ pub fn load_two(
         rh.new result }
 {
     if !limits::is_tick_length(period) {
-        return Err(Refusal::TickOutOfRange(period));
+        return Err(Refusal::TickOutOfRange(File::None, period));
     }
     if LARGEST_TEXT < left.len() {
         return Err(Refusal::TextTooLong(File::Left));
