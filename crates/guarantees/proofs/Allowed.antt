@@ -48,9 +48,8 @@ use Rattle.tables_check.specs.declared.FailedPair.TheVariants.{NotAllowedAt, Bro
 use Rattle.two_operations.specs.Outcome.{search_outcome, check_outcome, widest_outcome}
 use Rattle.joining.specs.Outcome as joining
 use Rattle.joining.specs.Outcome.{within_limits, laid_text, record_outcome, joined_record, joined_bytes, join_outcome}
-use Rattle.demands.specs.Words.{Without}
 use Rattle.guarantees.proofs.Setting.{tick_is_allowed}
-use Rattle.guarantees.specs.Lengths.{TicksDemand, LengthRefused, LengthPassed, LengthDemand}
+use Rattle.guarantees.specs.Lengths.{TicksDemand, LengthRefused, LengthPassed, LengthDemand, WithoutTick}
 
 pub ticks_promised : TicksDemand
 ticks_promised = record {
@@ -97,9 +96,9 @@ last = 23
 Earlier : {A : Type 0} → Result A Refusal → Type 0
 Earlier answer = (r : Refusal) → answer ≡ Err r → code r ≤ last
 
-without_tick : {A : Type 0} (answer : Result A Refusal) → Earlier answer → Without tick_out_of_range answer
+without_tick : {A : Type 0} (answer : Result A Refusal) → Earlier answer → WithoutTick answer
 unfolding Earlier
-without_tick answer h p e = omega (arith, h (tick_out_of_range p) e)
+without_tick answer h file p e = omega (arith, h (refusal.TickOutOfRange file p) e)
 
 earlier_ok : {A : Type 0} (a : A) → Earlier (Ok a)
 unfolding Earlier
@@ -330,13 +329,13 @@ module _ (period : ℕ) (allowed : tick_allowed period ≡ true) where
 
   -- 25 and 26 are none of these, but not 24 either
   other_code : {A : Type 0} (f : Refusal) → (code f ≡ code (tick_out_of_range 0) → ⊥)
-      → Without {A = A} tick_out_of_range (Err f)
-  other_code f h p e =
-      let z : f ≡ tick_out_of_range p = cc in
+      → WithoutTick {A = A} (Err f)
+  other_code f h file p e =
+      let z : f ≡ refusal.TickOutOfRange file p = cc in
       h (ap code z)
 
   record_passed : (t : Text) (z out : List ℕ)
-      → Without tick_out_of_range (record_outcome t z out).answer
+      → WithoutTick (record_outcome t z out).answer
   unfolding record_outcome laid_text joining.refused
   record_passed t z out =
       either P (within_limits t z)
@@ -345,13 +344,13 @@ module _ (period : ℕ) (allowed : tick_allowed period ≡ true) where
       (other_code limit_exceeded (λ e. omega arith))
     where
       P : joining.Outcome → Type 0
-      P o = Without tick_out_of_range o.answer
+      P o = WithoutTick o.answer
 
   join_passed : (left right out : List ℕ)
-      → Without tick_out_of_range (join_outcome period left right out).answer
+      → WithoutTick (join_outcome period left right out).answer
   unfolding join_outcome joining.refused
   join_passed left right out =
-      by_judged (λ (o : joining.Outcome). Without tick_out_of_range o.answer)
+      by_judged (λ (o : joining.Outcome). WithoutTick o.answer)
       (two_judged period left right) _ _ (judged_earlier left right)
       (λ f h. without_tick (Err f) (earlier_err _ f h))
       (λ e. record_passed (joined_record period left right) (joined_bytes period left right) out)

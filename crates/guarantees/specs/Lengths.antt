@@ -1,8 +1,11 @@
 -- What is asked of tick lengths (SPECIFICATION 4.7, 13.3, 13.4, 17.9): how constants come to ticks, and that an
 -- operation gives 24 exactly where the tick length is not allowed, and then leaves everything lent as it came.
 -- Definitions only: the theorems are in proofs/Guarantees.antt.
-use Rattle.std.specs.Prelude.{◌≡◌, List, ℕ, ◌+◌, ◌*◌, ◌≤◌, ◌<◌, Err}
+use Rattle.std.specs.Prelude.{◌≡◌, List, ℕ, ◌+◌, ◌*◌, ◌≤◌, ◌<◌, Result, Err}
 use Rattle.limits.specs.Limits.{TickLength, shortest_tick}
+use Rattle.refusals.specs.declared.File.{File}
+use Rattle.refusals.specs.declared.Refusal.{Refusal}
+use Rattle.refusals.specs.declared.Refusal.TheVariants.{TickOutOfRange}
 use Rattle.refusals.specs.Refusals.{tick_out_of_range}
 use Rattle.reader_constraints.specs.Constraints.{in_ticks}
 use Rattle.clocks_read.specs.Reading.{read_outcome, NothingRead}
@@ -46,19 +49,23 @@ pub record LengthRefused (period : ℕ) : Type 0 where
       → join_outcome period left right out
       ≡ record { answer = Err (tick_out_of_range period); out = out }
 
+-- the answer is no refusal by code 24, whatever file and number it names
+abbrev pub WithoutTick : {A : Type 0} → Result A Refusal → Type 0
+WithoutTick answer = (file : File) → Without (TickOutOfRange file) answer
+
 -- an allowed one: no operation gives 24
 pub record LengthPassed (period : ℕ) : Type 0 where
-  pub read : (s : List ℕ) → Without tick_out_of_range (read_outcome period s)
-  pub safe_states : (s keep : List ℕ) → Without tick_out_of_range (safe_outcome period s keep).answer
-  pub implementation : (s : List ℕ) → Without tick_out_of_range (implementation_outcome period s)
+  pub read : (s : List ℕ) → WithoutTick (read_outcome period s)
+  pub safe_states : (s keep : List ℕ) → WithoutTick (safe_outcome period s keep).answer
+  pub implementation : (s : List ℕ) → WithoutTick (implementation_outcome period s)
   pub search : (left right keep : List ℕ) (back line : ℕ) (run : List ℕ)
-      → Without tick_out_of_range (search_outcome period left right keep back line run).answer
+      → WithoutTick (search_outcome period left right keep back line run).answer
   pub check : (left right keep table : List ℕ)
-      → Without tick_out_of_range (check_outcome period left right keep table).answer
+      → WithoutTick (check_outcome period left right keep table).answer
   pub widest : (left right keep table : List ℕ)
-      → Without tick_out_of_range (widest_outcome period left right keep table).answer
+      → WithoutTick (widest_outcome period left right keep table).answer
   pub join : (left right out : List ℕ)
-      → Without tick_out_of_range (join_outcome period left right out).answer
+      → WithoutTick (join_outcome period left right out).answer
 
 -- both, and that a text is accepted only at an allowed one
 pub record LengthDemand (period : ℕ) : Type 0 where
