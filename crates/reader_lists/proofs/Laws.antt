@@ -76,98 +76,98 @@ module _ (period : ℕ) (s : List ℕ) (r : State) where
 
 -- one turn, from at and h on, of which the item led to x and q
 module _ (period : ℕ) (k : Item) (s : List ℕ) (room : ℕ) (at : Result ℕ Fault) (h : SoFar) (x : Result ℕ Fault) (q : SoFar)
-  (g : Goes (one_item period k s) (item_so_far period k s) at h x q) where
-    place_is : place_of (at >>= λ p. one_item period k s (state_of h.names h.text p)) ≡ x
-    place_is = rw g.reads (by x)
-      where
-        by : (y : Result ℕ Fault) → place_of (y >>= λ p. Ok (state_of q.names q.text p)) ≡ y
-        by (Ok p) = refl
-        by (Err f) = refl
+    (g : Goes (one_item period k s) (item_so_far period k s) at h x q) where
+  place_is : place_of (at >>= λ p. one_item period k s (state_of h.names h.text p)) ≡ x
+  place_is = rw g.reads (by x)
+    where
+      by : (y : Result ℕ Fault) → place_of (y >>= λ p. Ok (state_of q.names q.text p)) ≡ y
+      by (Ok p) = refl
+      by (Err f) = refl
 
-    abbrev on : State → Result State Fault
-    on r =
-        let more = next_token s kinds.comma r >>= items_from period room k s in
-        if ahead s r.place kinds.comma then more else next_token s kinds.semicolon r
+  abbrev on : State → Result State Fault
+  on r =
+      let more = next_token s kinds.comma r >>= items_from period room k s in
+      if ahead s r.place kinds.comma then more else next_token s kinds.semicolon r
 
-    -- what the rest of the list is, by what stands after the item
-    abbrev rest : Result Turn Fault → Result State Fault
-    rest t = t >>= λ y. if y.more then items_from period room k s (state_of q.names q.text y.end)
-        else Ok (state_of q.names q.text y.end)
+  -- what the rest of the list is, by what stands after the item
+  abbrev rest : Result Turn Fault → Result State Fault
+  rest t = t >>= λ y. if y.more then items_from period room k s (state_of q.names q.text y.end)
+      else Ok (state_of q.names q.text y.end)
 
-    turn_is : (p : ℕ) → on (state_of q.names q.text p) ≡ rest (after_item s p)
-    unfolding next_token after_item
-    turn_is p = by (ahead s p kinds.comma) refl
-      where
-        end : (c : Result ℕ Fault) → (c >>= λ e. Ok (state_of q.names q.text e))
-            ≡ rest (c >>= λ e. Ok (record { more = false; end = e }))
-        end (Ok e) = refl
-        end (Err f) = refl
+  turn_is : (p : ℕ) → on (state_of q.names q.text p) ≡ rest (after_item s p)
+  unfolding next_token after_item
+  turn_is p = by (ahead s p kinds.comma) refl
+    where
+      end : (c : Result ℕ Fault) → (c >>= λ e. Ok (state_of q.names q.text e))
+          ≡ rest (c >>= λ e. Ok (record { more = false; end = e }))
+      end (Ok e) = refl
+      end (Err f) = refl
 
-        comma : (c : Result ℕ Fault) → (c >>= (λ e. Ok (state_of q.names q.text e)) >>= items_from period room k s)
-            ≡ rest (c >>= λ e. Ok (record { more = true; end = e }))
-        comma (Ok e) = refl
-        comma (Err f) = refl
+      comma : (c : Result ℕ Fault) → (c >>= (λ e. Ok (state_of q.names q.text e)) >>= items_from period room k s)
+          ≡ rest (c >>= λ e. Ok (record { more = true; end = e }))
+      comma (Ok e) = refl
+      comma (Err f) = refl
 
-        by : (b : Bool) → ahead s p kinds.comma ≡ b → on (state_of q.names q.text p) ≡ rest (after_item s p)
-        by true h = rw h (comma (take s p kinds.comma))
-        by false h = rw h (end (take s p kinds.semicolon))
+      by : (b : Bool) → ahead s p kinds.comma ≡ b → on (state_of q.names q.text p) ≡ rest (after_item s p)
+      by true h = rw h (comma (take s p kinds.comma))
+      by false h = rw h (end (take s p kinds.semicolon))
 
-    items_on : (at >>= λ p. items_from period (suc room) k s (state_of h.names h.text p)) ≡ rest (x >>= after_item s)
-    unfolding items_from
-    items_on = sym (bind_of at (λ p. one_item period k s (state_of h.names h.text p)) on) ∙ rw g.reads (by x)
-      where
-        by : (y : Result ℕ Fault) → (y >>= (λ p. Ok (state_of q.names q.text p)) >>= on) ≡ rest (y >>= after_item s)
-        by (Ok p) = turn_is p
-        by (Err f) = refl
+  items_on : (at >>= λ p. items_from period (suc room) k s (state_of h.names h.text p)) ≡ rest (x >>= after_item s)
+  unfolding items_from
+  items_on = sym (bind_of at (λ p. one_item period k s (state_of h.names h.text p)) on) ∙ rw g.reads (by x)
+    where
+      by : (y : Result ℕ Fault) → (y >>= (λ p. Ok (state_of q.names q.text p)) >>= on) ≡ rest (y >>= after_item s)
+      by (Ok p) = turn_is p
+      by (Err f) = refl
 
-    -- what of the rest of the list is read, by what stands after the item
-    abbrev read : Result Turn Fault → SoFar
-    read (Ok t) = if t.more then items_so_far_from period room k s (Ok t.end) q else q
-    read (Err f) = q
+  -- what of the rest of the list is read, by what stands after the item
+  abbrev read : Result Turn Fault → SoFar
+  read (Ok t) = if t.more then items_so_far_from period room k s (Ok t.end) q else q
+  read (Err f) = q
 
-    so_far_on : items_so_far_from period (suc room) k s at h ≡ read (x >>= after_item s)
-    unfolding items_so_far_from after_item
-    so_far_on = rw (place_is, g.stops) (by x)
-      where
-        end : (c : Result ℕ Fault) → q ≡ read (c >>= λ e. Ok (record { more = false; end = e }))
-        end (Ok e) = refl
-        end (Err f) = refl
+  so_far_on : items_so_far_from period (suc room) k s at h ≡ read (x >>= after_item s)
+  unfolding items_so_far_from after_item
+  so_far_on = rw (place_is, g.stops) (by x)
+    where
+      end : (c : Result ℕ Fault) → q ≡ read (c >>= λ e. Ok (record { more = false; end = e }))
+      end (Ok e) = refl
+      end (Err f) = refl
 
-        turn : (p : ℕ) (b : Bool) → ahead s p kinds.comma ≡ b
-            → (if ahead s p kinds.comma then items_so_far_from period room k s (take s p kinds.comma) q else q)
-            ≡ read (after_item s p)
-        turn p true t = rw (t, ahead_taken s p kinds.comma t)
-        turn p false t = rw t (end (take s p kinds.semicolon))
+      turn : (p : ℕ) (b : Bool) → ahead s p kinds.comma ≡ b
+          → (if ahead s p kinds.comma then items_so_far_from period room k s (take s p kinds.comma) q else q)
+          ≡ read (after_item s p)
+      turn p true t = rw (t, ahead_taken s p kinds.comma t)
+      turn p false t = rw t (end (take s p kinds.semicolon))
 
-        by : (y : Result ℕ Fault)
-            → (if ahead_of s y kinds.comma then items_so_far_from period room k s (y >>= λ p. take s p kinds.comma) q
-            else q) ≡ read (y >>= after_item s)
-        by (Ok p) = turn p (ahead s p kinds.comma) refl
-        by (Err f) = refl
+      by : (y : Result ℕ Fault)
+          → (if ahead_of s y kinds.comma then items_so_far_from period room k s (y >>= λ p. take s p kinds.comma) q
+          else q) ≡ read (y >>= after_item s)
+      by (Ok p) = turn p (ahead s p kinds.comma) refl
+      by (Err f) = refl
 
-    -- the item, or what stands after it, is refused
-    module _ {f : Fault} (e : (x >>= after_item s) ≡ Err f) where
-      pub turn_none : (at >>= λ p. items_from period (suc room) k s (state_of h.names h.text p)) ≡ Err f
-      turn_none = rw e at items_on
+  -- the item, or what stands after it, is refused
+  module _ {f : Fault} (e : (x >>= after_item s) ≡ Err f) where
+    pub turn_none : (at >>= λ p. items_from period (suc room) k s (state_of h.names h.text p)) ≡ Err f
+    turn_none = rw e at items_on
 
-      pub turn_so_far : items_so_far_from period (suc room) k s at h ≡ q
-      turn_so_far = rw e at so_far_on
+    pub turn_so_far : items_so_far_from period (suc room) k s at h ≡ q
+    turn_so_far = rw e at so_far_on
 
-    module _ {t : Turn} (e : (x >>= after_item s) ≡ Ok t) where
-      -- the item was the last one
-      pub turn_last : t.more ≡ false
-          → (at >>= λ p. items_from period (suc room) k s (state_of h.names h.text p)) ≡ Ok (state_of q.names q.text t.end)
-      turn_last m = rw (e, m) at items_on
+  module _ {t : Turn} (e : (x >>= after_item s) ≡ Ok t) where
+    -- the item was the last one
+    pub turn_last : t.more ≡ false
+        → (at >>= λ p. items_from period (suc room) k s (state_of h.names h.text p)) ≡ Ok (state_of q.names q.text t.end)
+    turn_last m = rw (e, m) at items_on
 
-      -- another item comes
-      pub turn_more : t.more ≡ true
-          → (at >>= λ p. items_from period (suc room) k s (state_of h.names h.text p))
-          ≡ items_from period room k s (state_of q.names q.text t.end)
-      turn_more m = rw (e, m) at items_on
+    -- another item comes
+    pub turn_more : t.more ≡ true
+        → (at >>= λ p. items_from period (suc room) k s (state_of h.names h.text p))
+        ≡ items_from period room k s (state_of q.names q.text t.end)
+    turn_more m = rw (e, m) at items_on
 
-      pub more_so_far : t.more ≡ true
-          → items_so_far_from period (suc room) k s at h ≡ items_so_far_from period room k s (Ok t.end) q
-      more_so_far m = rw (e, m) at so_far_on
+    pub more_so_far : t.more ≡ true
+        → items_so_far_from period (suc room) k s at h ≡ items_so_far_from period room k s (Ok t.end) q
+    more_so_far m = rw (e, m) at so_far_on
 
 -- a head, of which nothing is read
 no_head : Head

@@ -2,7 +2,7 @@
 -- it reads, and a part of the text is read right where that holds whatever the other one is.
 use Rattle.std.specs.Prelude.{⊤, ◌≡◌, Bool, List, ℕ, ◌+◌, Result, Ok, Err, replicate, set}
 use Rattle.reader_record.specs.declared.Name.{Name}
-use Rattle.reader_record.specs.declared.Channel as channel
+use Rattle.reader_record.specs.declared.Channel.{Channel}
 use Rattle.reader_record.specs.declared.Constraint.{Constraint}
 use Rattle.reader_record.specs.declared.Edge.{Edge}
 use Rattle.reader_record.specs.declared.Text.{Text}
@@ -15,7 +15,7 @@ use Rattle.reader_lists.specs.declared.HeadSoFar.{HeadSoFar}
 use Rattle.reader_lists.specs.declared.EdgesRead.{EdgesRead}
 use Rattle.reader_lists.specs.declared.EdgesSoFar.{EdgesSoFar}
 use Rattle.reader_lists.specs.declared.Named.{Named}
-use Rattle.reader_lists.specs.declared.Named.TheVariants.{Channel, Clock, Location}
+use Rattle.reader_lists.specs.declared.Named.TheVariants as named
 use Rattle.reader_lists.specs.Turns.{unused}
 use Rattle.reader_lists.specs.SoFar.{SoFar, Goes}
 use Rattle.reader_lists.specs.SoFar.{so_far}
@@ -38,7 +38,7 @@ whole h init edges count = record {
 }
 
 -- the head with those channels
-abbrev pub with_channels : Head → List channel.Channel → Head
+abbrev pub with_channels : Head → List Channel → Head
 with_channels h channels = record {
   channels = channels;
   channel_count = h.channel_count;
@@ -62,7 +62,7 @@ abbrev pub with_head : List Name → Head → ℕ → EdgesRead → State
 with_head names h init e = state_of names (whole (with_channels h e.channels) init e.edges e.count) e.end
 
 -- nothing of the edges is read, and the channels are given
-abbrev pub before_edges : ℕ → List channel.Channel → EdgesRead
+abbrev pub before_edges : ℕ → List Channel → EdgesRead
 before_edges p channels = record { channels = channels; edges = no_edges; count = 0; end = p }
 
 -- a part of the text leads from r to q, or is refused, whatever the rest of the record is
@@ -94,12 +94,12 @@ abbrev pub edges_at : EdgesSoFar → ℕ → EdgesRead
 edges_at r p = record { channels = r.channels; edges = r.edges; count = r.count; end = p }
 
 -- no edges, and the channels are given
-abbrev pub none_so_far : List channel.Channel → EdgesSoFar
+abbrev pub none_so_far : List Channel → EdgesSoFar
 none_so_far channels = record { channels = channels; edges = no_edges; count = 0 }
 
 -- one item of the kind k more in the head; c is the invariant of a location
 abbrev pub added : Named → Head → Name → Constraint → Head
-added Channel h n c = record {
+added named.Channel h n c = record {
   channels = set h.channels h.channel_count (unused n);
   channel_count = h.channel_count + 1;
   clocks = h.clocks;
@@ -107,7 +107,7 @@ added Channel h n c = record {
   locations = h.locations;
   location_count = h.location_count;
 }
-added Clock h n c = record {
+added named.Clock h n c = record {
   channels = h.channels;
   channel_count = h.channel_count;
   clocks = set h.clocks h.clock_count n;
@@ -115,7 +115,7 @@ added Clock h n c = record {
   locations = h.locations;
   location_count = h.location_count;
 }
-added Location h n c = record {
+added named.Location h n c = record {
   channels = h.channels;
   channel_count = h.channel_count;
   clocks = h.clocks;

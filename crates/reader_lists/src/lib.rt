@@ -341,7 +341,12 @@ fn named_item(
         }
         Err(e) => {
             if n < limit(k) {
-                add(&mut r.head, k, e.read, reader_constraints::blank_constraint());
+                add(
+                    &mut r.head,
+                    k,
+                    e.read,
+                    reader_constraints::blank_constraint(),
+                );
             }
             Err(e.fault)
         }

@@ -11,8 +11,7 @@ use Rattle.reader_lists.proofs.edge_item.Goals as goal
 
 pub add_edge-requires : goal.add_edge-requires
 add_edge-requires c =
-    let read = sym (beside_ok _ _ c.in-Ok.ensures) in
-    (
+    let read = sym (beside_ok _ _ c.in-Ok.ensures) in (
       leb-false edge_limit _ (of_ok (λ r. nat_le edge_limit c.args.r.now.count ≡ false) (edge_room _ _ c.args.at _ _ _) read),
       of_ok (λ r. r.channel < channel_limit) (channel_at _ _ c.args.at _ _ _) read,
     )
