@@ -127,7 +127,7 @@ pub struct ComparisonRead {
     pub end: usize,
 }
 
-// Of the first clock, and as long as nothing of it is read.
+// A comparison of which nothing is read.
 fn no_comparison() -> Comparison
     ensures { result ≡ no_comparison }
 {
