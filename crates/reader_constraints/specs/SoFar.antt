@@ -1,5 +1,5 @@
--- The comparisons that were read before a fault, the one that it is in among them: what is missing of that one is 0, and
--- `<=` for its sign. A stage that is handed a fault has read nothing.
+-- The comparisons that were read before a fault, the one that it is in too where it is not one too many: what is missing
+-- of that one is 0, and `<=` for its sign. A stage that is handed a fault has read nothing.
 use Rattle.std.specs.Prelude.{Bool, true, false, List, ℕ, zero, suc, Result, Ok, if◌then◌else◌}
 use Rattle.reader_tokens.specs.Kinds as kinds
 use Rattle.reader_record.specs.declared.Name.{Name}

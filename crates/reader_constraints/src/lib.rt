@@ -259,7 +259,7 @@ fn optional(
 }
 
 // The guard of an edge, where there is one (SPECIFICATION 3.1). A fault of the stage before stays. Beside a fault stand
-// the comparisons that were read, the one with the fault among them.
+// the comparisons so far, the one with the fault too where it is not one too many.
 pub fn guard(
     period: usize,
     s: &[u8],
@@ -282,7 +282,7 @@ pub fn guard(
 }
 
 // The invariant of a location, where there is one (SPECIFICATION 3.1). A fault of the stage before stays. Beside a fault
-// stand the comparisons that were read, the one with the fault among them.
+// stand the comparisons so far, the one with the fault too where it is not one too many.
 pub fn invariant(
     period: usize,
     s: &[u8],

@@ -1,5 +1,6 @@
--- What was read of a list before a fault: its items, the one with the fault among them where there was room for it. What
--- is missing of that one is as in a record of which nothing is read.
+-- What was read of a list before a fault: its items, the one with the fault too where there is room for it. What is
+-- missing of that one is a name of no bytes, an invariant of no comparison, and of an edge as `edge_so_far` says. A list
+-- that is handed a fault has an item of which nothing was read.
 use Rattle.std.specs.Prelude.{◌≡◌, List, ℕ, zero, suc, Result, Ok, Err, nat_le, if◌then◌else◌}
 use Rattle.reader_tokens.specs.Kinds as kinds
 use Rattle.reader_record.specs.declared.Name.{Name}

@@ -355,7 +355,8 @@ fn named_item(
 
 // The channels, clocks or locations, joined by commas, and `;`, where the words before them are read and the place in r
 // is not used (SPECIFICATION 3.1). One item at most comes after those that there is room for, and that one is refused. A
-// fault of the stage before stays. Beside a fault stand the items that were read, the one with the fault among them.
+// fault of the stage before stays. Beside a fault stand the items so far, the one with the fault too where there is room
+// for it, and an item of which nothing was read where the fault is that of the stage before.
 pub fn named_items(
     period: usize,
     s: &[u8],
@@ -427,7 +428,8 @@ fn edge_item(
 }
 
 // The edges, joined by commas, and `;`, from a place on (SPECIFICATION 3.1). A fault of the stage before stays. Beside a
-// fault stand the edges that were read, the one with the fault among them.
+// fault stand the edges so far, the one with the fault too where there is room for it, and an edge of which nothing was
+// read where the fault is that of the stage before.
 pub fn edges(
     period: usize,
     s: &[u8],
