@@ -14,7 +14,7 @@ use Rattle.reader_parts.specs.Slots.{name_slots}
 use Rattle.reader_parts.specs.declared.Declaration.{Declaration}
 use Rattle.reader_parts.specs.SoFar.{name_so_far}
 use Rattle.reader_constraints.specs.declared.ConstraintRead.{ConstraintRead}
-use Rattle.reader_constraints.specs.Constraints.{blank_constraint}
+use Rattle.reader_constraints.specs.Constraints.{blank_constraint, invariant}
 use Rattle.reader_edges.specs.declared.EdgeRead.{EdgeRead}
 use Rattle.reader_edges.specs.declared.EdgeSoFar.{EdgeSoFar}
 use Rattle.reader_edges.specs.Edges.{edge_next}
@@ -47,6 +47,10 @@ slots_fit Location = omega arith
 pub room_left : (limit k : ℕ) → k < limit → limit - k ≡ suc (limit - (k + 1))
 room_left limit k h = omega arith
 
+-- where there is room for an item of the kind k, and k is k'
+pub room_for : {n l : ℕ} {k k' : Named} → n < l → l ≡ limit (item k) → k ≡ k' → n < limit (item k')
+room_for h e t = rw (e, t) at h
+
 -- an item that is added to the head is added to the record
 pub added_whole : (k : Named) (h : Head) (n : Name) (c : Constraint) (init : ℕ) (edges : List Edge) (number : ℕ)
     → whole (added k h n c) init edges number ≡ with_named k (whole h init edges number) n c
@@ -66,15 +70,88 @@ module _ (period : ℕ) (s : List ℕ) (r : State) where
   item_none Clock e = rw e
   item_none Location e = rw e
 
-  pub item_read : (k : Named) {d : Declaration} → declared k ≡ Ok d
-      → one_item period (item k) s r ≡ (held_next period k s d.end d.names
-      >>= λ i. Ok (state_of d.names (with_named k r.text d.name i.constraint) i.end))
-  unfolding channel_item clock_item location_item held_next
-  item_read Channel e = rw e
-  item_read Clock e = rw e
-  item_read Location e = rw e
+  module _ {d : Declaration} where
+    pub channel_read : Ok d ≡ declared Channel
+        → one_item period Item.Channel s r ≡ Ok (state_of d.names (with_channel r.text d.name) d.end)
+    unfolding channel_item
+    channel_read e = rw (← e)
 
--- one turn, from at and h on, of which the item led to x and q
+    pub clock_read : Ok d ≡ declared Clock
+        → one_item period Item.Clock s r ≡ Ok (state_of d.names (with_clock r.text d.name) d.end)
+    unfolding clock_item
+    clock_read e = rw (← e)
+
+    pub location_read : Ok d ≡ declared Location
+        → one_item period Item.Location s r ≡ (invariant period s d.end d.names
+        >>= λ i. Ok (state_of d.names (with_location r.text d.name i.constraint) i.end))
+    unfolding location_item
+    location_read e = rw (← e)
+
+    pub item_read : (k : Named) → declared k ≡ Ok d
+        → one_item period (item k) s r ≡ (held_next period k s d.end d.names
+        >>= λ i. Ok (state_of d.names (with_named k r.text d.name i.constraint) i.end))
+    unfolding held_next
+    item_read Channel e = channel_read (sym e)
+    item_read Clock e = clock_read (sym e)
+    item_read Location e = location_read (sym e)
+
+-- a turn where there is room for so many more items: what stands after the item
+module _ (period : ℕ) (k : Item) (s : List ℕ) (room : ℕ) where
+  abbrev on : State → Result State Fault
+  on q =
+      let more = next_token s kinds.comma q >>= items_from period room k s in
+      if ahead s q.place kinds.comma then more else next_token s kinds.semicolon q
+
+  -- the rest of the list, by what stands after the item that led to q
+  abbrev rest : State → Result Turn Fault → Result State Fault
+  rest q t = t >>= λ y. if y.more then items_from period room k s (state_of q.names q.text y.end)
+      else Ok (state_of q.names q.text y.end)
+
+  turn_is : (q : State) → on q ≡ rest q (after_item s q.place)
+  unfolding next_token after_item
+  turn_is q = by (ahead s q.place kinds.comma) refl
+    where
+      end : (c : Result ℕ Fault) → (c >>= λ e. Ok (state_of q.names q.text e))
+          ≡ rest q (c >>= λ e. Ok (record { more = false; end = e }))
+      end (Ok e) = refl
+      end (Err f) = refl
+
+      comma : (c : Result ℕ Fault) → (c >>= (λ e. Ok (state_of q.names q.text e)) >>= items_from period room k s)
+          ≡ rest q (c >>= λ e. Ok (record { more = true; end = e }))
+      comma (Ok e) = refl
+      comma (Err f) = refl
+
+      by : (b : Bool) → ahead s q.place kinds.comma ≡ b → on q ≡ rest q (after_item s q.place)
+      by true h = rw h (comma (take s q.place kinds.comma))
+      by false h = rw h (end (take s q.place kinds.semicolon))
+
+-- one turn
+module _ (period : ℕ) (k : Item) (s : List ℕ) (r : State) (room : ℕ) where
+  -- the item is refused
+  pub turn_none : {f : Fault} → one_item period k s r ≡ Err f → items_from period (suc room) k s r ≡ Err f
+  unfolding items_from
+  turn_none e = rw e
+
+  module _ {q : State} (e : one_item period k s r ≡ Ok q) where
+    turn_on : items_from period (suc room) k s r ≡ rest period k s room q (after_item s q.place)
+    unfolding items_from
+    turn_on = rw e (turn_is period k s room q)
+
+    -- what stands after the item is refused
+    pub turn_fault : {f : Fault} → Err f ≡ after_item s q.place → items_from period (suc room) k s r ≡ Err f
+    turn_fault a = rw (turn_on, ← a)
+
+    module _ {t : Turn} (a : Ok t ≡ after_item s q.place) where
+      -- the item was the last one
+      pub turn_last : t.more ≡ false → items_from period (suc room) k s r ≡ Ok (state_of q.names q.text t.end)
+      turn_last h = rw (turn_on, ← a, h)
+
+      -- another item comes
+      pub turn_more : t.more ≡ true
+          → items_from period (suc room) k s r ≡ items_from period room k s (state_of q.names q.text t.end)
+      turn_more h = rw (turn_on, ← a, h)
+
+-- one turn behind a stage, from at and h on, of which the item led to x and q
 module _ (period : ℕ) (k : Item) (s : List ℕ) (room : ℕ) (at : Result ℕ Fault) (h : SoFar) (x : Result ℕ Fault) (q : SoFar)
     (g : Goes (one_item period k s) (item_so_far period k s) at h x q) where
   place_is : place_of (at >>= λ p. one_item period k s (state_of h.names h.text p)) ≡ x
@@ -84,40 +161,18 @@ module _ (period : ℕ) (k : Item) (s : List ℕ) (room : ℕ) (at : Result ℕ 
       by (Ok p) = refl
       by (Err f) = refl
 
-  abbrev on : State → Result State Fault
-  on r =
-      let more = next_token s kinds.comma r >>= items_from period room k s in
-      if ahead s r.place kinds.comma then more else next_token s kinds.semicolon r
+  abbrev to : ℕ → State
+  to p = state_of q.names q.text p
 
-  -- what the rest of the list is, by what stands after the item
-  abbrev rest : Result Turn Fault → Result State Fault
-  rest t = t >>= λ y. if y.more then items_from period room k s (state_of q.names q.text y.end)
-      else Ok (state_of q.names q.text y.end)
-
-  turn_is : (p : ℕ) → on (state_of q.names q.text p) ≡ rest (after_item s p)
-  unfolding next_token after_item
-  turn_is p = by (ahead s p kinds.comma) refl
-    where
-      end : (c : Result ℕ Fault) → (c >>= λ e. Ok (state_of q.names q.text e))
-          ≡ rest (c >>= λ e. Ok (record { more = false; end = e }))
-      end (Ok e) = refl
-      end (Err f) = refl
-
-      comma : (c : Result ℕ Fault) → (c >>= (λ e. Ok (state_of q.names q.text e)) >>= items_from period room k s)
-          ≡ rest (c >>= λ e. Ok (record { more = true; end = e }))
-      comma (Ok e) = refl
-      comma (Err f) = refl
-
-      by : (b : Bool) → ahead s p kinds.comma ≡ b → on (state_of q.names q.text p) ≡ rest (after_item s p)
-      by true h = rw h (comma (take s p kinds.comma))
-      by false h = rw h (end (take s p kinds.semicolon))
-
-  items_on : (at >>= λ p. items_from period (suc room) k s (state_of h.names h.text p)) ≡ rest (x >>= after_item s)
+  items_on : (at >>= λ p. items_from period (suc room) k s (state_of h.names h.text p))
+      ≡ rest period k s room (to 0) (x >>= after_item s)
   unfolding items_from
-  items_on = sym (bind_of at (λ p. one_item period k s (state_of h.names h.text p)) on) ∙ rw g.reads (by x)
+  items_on =
+      sym (bind_of at (λ p. one_item period k s (state_of h.names h.text p)) (on period k s room)) ∙ rw g.reads (by x)
     where
-      by : (y : Result ℕ Fault) → (y >>= (λ p. Ok (state_of q.names q.text p)) >>= on) ≡ rest (y >>= after_item s)
-      by (Ok p) = turn_is p
+      by : (y : Result ℕ Fault) → (y >>= (λ p. Ok (to p)) >>= on period k s room)
+          ≡ rest period k s room (to 0) (y >>= after_item s)
+      by (Ok p) = turn_is period k s room (to p)
       by (Err f) = refl
 
   -- what of the rest of the list is read, by what stands after the item
@@ -147,23 +202,23 @@ module _ (period : ℕ) (k : Item) (s : List ℕ) (room : ℕ) (at : Result ℕ 
 
   -- the item, or what stands after it, is refused
   module _ {f : Fault} (e : (x >>= after_item s) ≡ Err f) where
-    pub turn_none : (at >>= λ p. items_from period (suc room) k s (state_of h.names h.text p)) ≡ Err f
-    turn_none = rw e at items_on
+    pub list_refused : (at >>= λ p. items_from period (suc room) k s (state_of h.names h.text p)) ≡ Err f
+    list_refused = rw e at items_on
 
     pub turn_so_far : items_so_far_from period (suc room) k s at h ≡ q
     turn_so_far = rw e at so_far_on
 
   module _ {t : Turn} (e : (x >>= after_item s) ≡ Ok t) where
     -- the item was the last one
-    pub turn_last : t.more ≡ false
+    pub list_ends : t.more ≡ false
         → (at >>= λ p. items_from period (suc room) k s (state_of h.names h.text p)) ≡ Ok (state_of q.names q.text t.end)
-    turn_last m = rw (e, m) at items_on
+    list_ends m = rw (e, m) at items_on
 
     -- another item comes
-    pub turn_more : t.more ≡ true
+    pub list_goes_on : t.more ≡ true
         → (at >>= λ p. items_from period (suc room) k s (state_of h.names h.text p))
         ≡ items_from period room k s (state_of q.names q.text t.end)
-    turn_more m = rw (e, m) at items_on
+    list_goes_on m = rw (e, m) at items_on
 
     pub more_so_far : t.more ≡ true
         → items_so_far_from period (suc room) k s at h ≡ items_so_far_from period room k s (Ok t.end) q

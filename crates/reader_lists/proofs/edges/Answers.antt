@@ -7,7 +7,7 @@ use Rattle.reader_lists.specs.Lists.{items_from, items}
 use Rattle.reader_lists.specs.SoFar.{items_so_far_from, items_so_far}
 use Rattle.reader_lists.specs.Heads.{none_so_far}
 use Rattle.limits.specs.Limits.{edge_limit}
-use Rattle.reader_lists.proofs.Laws.{room_left, turn_none, turn_so_far, turn_last, turn_more, more_so_far, edges_lead}
+use Rattle.reader_lists.proofs.Laws.{room_left, list_refused, turn_so_far, list_ends, list_goes_on, more_so_far, edges_lead}
 use Rattle.reader_lists.proofs.edges.Goals as goal
 
 pub loop-init : goal.loop-init
@@ -20,14 +20,14 @@ returns-then-not-t-clause-read c =
     rw c.edges_at.ensures
     (edges_lead (items c.args.period Item.Edge _) _ (none_so_far c.args.channels) c.args.at _ (λ h init.
     rw (← c.loop.invariant.reads h init, room)
-    (turn_last _ _ _ _ _ _ _ _ (c.edge_item-item.ensures h init) (sym c.in-Ok.ensures) (not-true _ c.if-not-t.true))))
+    (list_ends _ _ _ _ _ _ _ _ (c.edge_item-item.ensures h init) (sym c.in-Ok.ensures) (not-true _ c.if-not-t.true))))
 
 pub returns-in-Err-clause-read : goal.returns-in-Err-clause-read
 returns-in-Err-clause-read c =
     let room = room_left edge_limit c.loop.counter c.loop-test.true in
     edges_lead (items c.args.period Item.Edge _) _ (none_so_far c.args.channels) c.args.at _ (λ h init.
     rw (← c.loop.invariant.reads h init, room)
-    (turn_none _ _ _ _ _ _ _ _ (c.edge_item-item.ensures h init) (sym c.in-Err.ensures)))
+    (list_refused _ _ _ _ _ _ _ _ (c.edge_item-item.ensures h init) (sym c.in-Err.ensures)))
 
 pub returns-in-Err-clause-beside : goal.returns-in-Err-clause-beside
 returns-in-Err-clause-beside c = λ h init.
@@ -42,7 +42,7 @@ loop-preserved c =
       reads = λ h init. rw (
         ← c.loop.invariant.reads h init,
         room,
-        turn_more c.args.period Item.Edge _ (edge_limit - (c.loop.counter + 1)) _ _ _ _ (c.edge_item-item.ensures h init) (sym c.in-Ok.ensures) (not-false _ c.if-not-t.false),
+        list_goes_on c.args.period Item.Edge _ (edge_limit - (c.loop.counter + 1)) _ _ _ _ (c.edge_item-item.ensures h init) (sym c.in-Ok.ensures) (not-false _ c.if-not-t.false),
       );
       stops = λ h init. rw (
         ← c.loop.invariant.stops h init,

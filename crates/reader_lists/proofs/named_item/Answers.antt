@@ -1,21 +1,21 @@
 -- There is room for the item that is declared, and each return is what its kind adds.
-use Rattle.std.proofs.Common.{◌<◌, sym}
+use Rattle.std.proofs.Common.{◌<◌, refl, sym}
 use borrow.Author.Tests.{lt-leb, le-leb}
 use Rattle.reader_parts.specs.Binds.{of_ok, beside_ok, beside_err}
 use Rattle.reader_parts.specs.Facts.{declare_at}
 use Rattle.reader_lists.specs.Heads.{rest_so_far}
-use Rattle.reader_lists.proofs.Laws.{added_whole, item_goes, item_stops, none_goes, none_full}
+use Rattle.reader_lists.proofs.Laws.{room_for, added_whole, item_goes, item_stops, none_goes, none_full}
 use Rattle.reader_lists.proofs.named_item.Goals as goal
 
 pub add-requires : goal.add-requires
 add-requires c =
     let room = of_ok (λ d. c.count-n.result < c.limit.result) (declare_at _ _ _ _ _ c.args.at) (sym (beside_ok _ _ c.in-Ok.ensures)) in
-    rw (c.count-n.ensures, c.limit.ensures) at room
+    rw c.count-n.ensures at (room_for room c.limit.ensures refl)
 
 pub add-requires-in-Err-held_next : goal.add-requires-in-Err-held_next
 add-requires-in-Err-held_next c =
     let room = of_ok (λ d. c.count-n.result < c.limit.result) (declare_at _ _ _ _ _ c.args.at) (sym (beside_ok _ _ c.in-Ok.ensures)) in
-    rw (c.count-n.ensures, c.limit.ensures) at room
+    rw c.count-n.ensures at (room_for room c.limit.ensures refl)
 
 pub returns-in-Ok-held_next : goal.returns-in-Ok-held_next
 returns-in-Ok-held_next c = λ init edges count.

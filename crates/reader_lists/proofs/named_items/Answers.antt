@@ -6,7 +6,7 @@ use Rattle.reader_lists.specs.Lists.{limit, items_from, items}
 use Rattle.reader_lists.specs.Turns.{item}
 use Rattle.reader_lists.specs.SoFar.{items_so_far_from, items_so_far}
 use Rattle.reader_lists.specs.Heads.{held}
-use Rattle.reader_lists.proofs.Laws.{room_left, turn_none, turn_so_far, turn_last, turn_more, more_so_far, head_leads}
+use Rattle.reader_lists.proofs.Laws.{room_left, list_refused, turn_so_far, list_ends, list_goes_on, more_so_far, head_leads}
 use Rattle.reader_lists.proofs.named_items.Goals as goal
 
 pub loop-init : goal.loop-init
@@ -21,14 +21,14 @@ returns-then-not-t-clause-read c =
     rw c.head_at.ensures
     (head_leads (items c.args.period (item c.args.k) _) (held c.args.r) c.args.at _ (λ init edges count.
     rw (← c.loop.invariant.reads init edges count, room)
-    (turn_last _ _ _ _ _ _ _ _ (c.named_item-item.ensures init edges count) (sym c.in-Ok.ensures) (not-true _ c.if-not-t.true))))
+    (list_ends _ _ _ _ _ _ _ _ (c.named_item-item.ensures init edges count) (sym c.in-Ok.ensures) (not-true _ c.if-not-t.true))))
 
 pub returns-in-Err-clause-read : goal.returns-in-Err-clause-read
 returns-in-Err-clause-read c =
     let room = room_left (limit (item c.args.k)) c.loop.counter (rw c.limit-end.ensures at c.loop-test.true) in
     head_leads (items c.args.period (item c.args.k) _) (held c.args.r) c.args.at _ (λ init edges count.
     rw (← c.loop.invariant.reads init edges count, room)
-    (turn_none _ _ _ _ _ _ _ _ (c.named_item-item.ensures init edges count) (sym c.in-Err.ensures)))
+    (list_refused _ _ _ _ _ _ _ _ (c.named_item-item.ensures init edges count) (sym c.in-Err.ensures)))
 
 pub returns-in-Err-clause-beside : goal.returns-in-Err-clause-beside
 returns-in-Err-clause-beside c = λ init edges count.
@@ -43,7 +43,7 @@ loop-preserved c =
       reads = λ init edges count. rw (
         ← c.loop.invariant.reads init edges count,
         room,
-        turn_more c.args.period (item c.args.k) _ (limit (item c.args.k) - (c.loop.counter + 1)) _ _ _ _ (c.named_item-item.ensures init edges count) (sym c.in-Ok.ensures) (not-false _ c.if-not-t.false),
+        list_goes_on c.args.period (item c.args.k) _ (limit (item c.args.k) - (c.loop.counter + 1)) _ _ _ _ (c.named_item-item.ensures init edges count) (sym c.in-Ok.ensures) (not-false _ c.if-not-t.false),
       );
       stops = λ init edges count. rw (
         ← c.loop.invariant.stops init edges count,
