@@ -8,7 +8,7 @@ use Rattle.std.proofs.Math.Seq.{take-append_seam}
 use Rattle.limits.specs.Limits.{shortest_tick, largest_text, state_limit}
 use Rattle.refusals.specs.declared.Refusal.{Refusal}
 use Rattle.refusals.specs.Refusals as numbers
-use Rattle.refusals.specs.Refusals.{code, limit_exceeded, out_too_short}
+use Rattle.refusals.specs.Refusals.{code, file, limit_exceeded, out_too_short}
 use Rattle.refusals.specs.Answers.{answer_of}
 use Rattle.systems.specs.Bools.{none_some, and_T, and_both}
 use Rattle.reader_record.specs.declared.Text.{Text}
@@ -147,6 +147,7 @@ module _ (period : ℕ) (left right out : List ℕ) where
       λ h. absurd (omega (arith, early r e, same_code r (out_too_short n) h)),
       λ (j, m, l). none_some r (j.judged ∙ e),
     );
+    of_none = λ s h k. absurd (omega (arith, early r e, same_code r s h, k));
     long = λ n. (λ h. absurd (never_written r n h), λ (j, m, l). none_some r (j.judged ∙ e));
     text = λ n h. absurd (never_written r n h);
     joins = λ n h. absurd (never_written r n h);
@@ -162,6 +163,7 @@ module _ (period : ℕ) (left right out : List ℕ) where
       λ h. absurd (omega (arith, same_code limit_exceeded (out_too_short n) h)),
       λ (j, m, l). absurd (w j.within),
     );
+    of_none = λ s h k. let q : s ≡ limit_exceeded = cc in ap file q;
     long = λ n. (λ h. absurd (never_written limit_exceeded n h), λ (j, m, l). absurd (w j.within));
     text = λ n h. absurd (never_written limit_exceeded n h);
     joins = λ n h. absurd (never_written limit_exceeded n h);
@@ -183,6 +185,7 @@ module _ (period : ℕ) (left right out : List ℕ) where
           (record { judged = e; within = w }, sym m, omega arith),
       λ (j, m, k). rw m,
     );
+    of_none = λ s h k. let q : s ≡ out_too_short (length z) = cc in ap file q;
     long = λ n. (λ h. absurd (never_written (out_too_short (length z)) n h), λ (j, m, k). absurd (omega arith));
     text = λ n h. absurd (never_written (out_too_short (length z)) n h);
     joins = λ n h. absurd (never_written (out_too_short (length z)) n h);
@@ -195,6 +198,7 @@ module _ (period : ℕ) (left right out : List ℕ) where
   by_text e w l = record {
     limit = (λ h. absurd (never_written limit_exceeded (length z) (sym h)), λ (n, v). absurd (v w));
     short = λ n. (λ h. absurd (never_written (out_too_short n) (length z) (sym h)), λ (j, m, k). absurd (omega arith));
+    of_none = λ s h k. absurd (never_written s (length z) (sym h));
     long = λ n. (
       λ h.
           let m : length z ≡ n = cc in

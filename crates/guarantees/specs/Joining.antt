@@ -3,7 +3,9 @@
 use Rattle.std.specs.Prelude.{◌≡◌, ◌↔◌, List, ◌++◌, ℕ, ◌≤◌, ◌<◌, length, take, drop, Ok, Err}
 use Rattle.std.proofs.Math.Option.{none}
 use Rattle.limits.specs.Limits.{shortest_tick, largest_text, state_limit}
-use Rattle.refusals.specs.Refusals.{limit_exceeded, out_too_short}
+use Rattle.refusals.specs.declared.File.TheVariants.{None}
+use Rattle.refusals.specs.declared.Refusal.{Refusal}
+use Rattle.refusals.specs.Refusals.{code, file, limit_exceeded, out_too_short}
 use Rattle.systems.specs.Definitions.{Implementation, Satisfies}
 use Rattle.conjunction.specs.Definitions.{SameSignature}
 use Rattle.conjunction.proofs.Conjunction.{carried}
@@ -48,6 +50,8 @@ module _ (period : ℕ) (left right : List ℕ) where
     -- 26: exactly where no limit is passed and the slice has fewer bytes than the text, with their number
     pub short : (n : ℕ) → (o.answer ≡ Err (out_too_short n))
         ↔ (Joinable × (n ≡ length (joined_bytes period left right)) × (length out < n))
+    -- and neither comes with a file, so that these are all the refusals by 25 and 26 (SPECIFICATION 13.2)
+    pub of_none : (r : Refusal) → o.answer ≡ Err r → code limit_exceeded ≤ code r → file r ≡ None
     -- a length: exactly where the slice has so many bytes
     pub long : (n : ℕ) → (o.answer ≡ Ok n)
         ↔ (Joinable × (n ≡ length (joined_bytes period left right)) × (n ≤ length out))

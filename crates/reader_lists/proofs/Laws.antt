@@ -87,13 +87,13 @@ module _ (period : ℕ) (s : List ℕ) (r : State) where
     unfolding location_item
     location_read e = rw (← e)
 
-    pub item_read : (k : Named) → declared k ≡ Ok d
-        → one_item period (item k) s r ≡ (held_next period k s d.end d.names
-        >>= λ i. Ok (state_of d.names (with_named k r.text d.name i.constraint) i.end))
-    unfolding held_next
-    item_read Channel e = channel_read (sym e)
-    item_read Clock e = clock_read (sym e)
-    item_read Location e = location_read (sym e)
+  pub item_read : (k : Named) {d : Declaration} → declared k ≡ Ok d
+      → one_item period (item k) s r ≡ (held_next period k s d.end d.names
+      >>= λ i. Ok (state_of d.names (with_named k r.text d.name i.constraint) i.end))
+  unfolding held_next
+  item_read Channel e = channel_read (sym e)
+  item_read Clock e = clock_read (sym e)
+  item_read Location e = location_read (sym e)
 
 -- a turn where there is room for so many more items: what stands after the item
 module _ (period : ℕ) (k : Item) (s : List ℕ) (room : ℕ) where
@@ -161,6 +161,7 @@ module _ (period : ℕ) (k : Item) (s : List ℕ) (room : ℕ) (at : Result ℕ 
       by (Ok p) = refl
       by (Err f) = refl
 
+  -- where the item led; what comes of it does not use the place here
   abbrev to : ℕ → State
   to p = state_of q.names q.text p
 
